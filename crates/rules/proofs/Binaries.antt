@@ -1,0 +1,65 @@
+-- The binary reading: a cell becomes 1 or 2 if all agreeing placements say so, else 0.
+use mathlib.Core.Path.{_≡_, refl, ap, _∙_, subst}
+use mathlib.Core.Logic.{_↔_}
+use mathlib.Core.List.{List, map}
+use Prim.Native.Nat.{ℕ, zero, suc, _^_, _≤_, _<_}
+use native.Mathlib.Omega.{arith}
+use lib.ListN.{length, getD, set, List·getD-map}
+use Rattle.rules.specs.Colour.{Has, Subset}
+use Rattle.rules.specs.Answer.{Fitting, Exact, Proper}
+use Rattle.rules.specs.Binary.{setOf, cellOf}
+use Rattle.rules.proofs.Colours.{has-pow, has-pow-only, subset-antisym, pow-subset}
+use Rattle.rules.proofs.Answers.{full, proper-at, agrees-long}
+
+pub cell-set : (c : ℕ) → c ≤ 2 → cellOf (setOf c) ≡ c
+cell-set zero h = refl
+cell-set (suc zero) h = refl
+cell-set (suc (suc zero)) h = refl
+cell-set (suc (suc (suc n))) h = omega arith
+
+pub set-cell : (s : ℕ) → 0 < s → s ≤ 3 → setOf (cellOf s) ≡ s
+set-cell zero p h = omega arith
+set-cell (suc zero) p h = refl
+set-cell (suc (suc zero)) p h = refl
+set-cell (suc (suc (suc n))) p h = omega arith
+
+module _ {P : List ℕ → Type 0} (o : (p : List ℕ) → P p → Proper p) {l m : List ℕ} (x : Exact P l m) (i : ℕ) (r : i < length l) where
+  -- the set of cell i is the one colour 2 ^ k exactly if all agreeing placements give that colour
+  pub all-say : (k : ℕ) → (getD m i 0 ≡ 2 ^ k) ↔ ((p : List ℕ) → Fitting P l p → getD p i 0 ≡ 2 ^ k)
+  all-say k = (
+    λ e p f.
+        let c = proper-at p i (o p (f .member)) (omega (arith, agrees-long l p (f .fits))) in
+        let g : Has (2 ^ k) (c .0) = rw e at (x .whole i (c .0) (record { by = p; ok = f; gives = rw (c .1) (has-pow (c .0)) })) in
+        c .1 ∙ ap (λ (n : ℕ). 2 ^ n) (has-pow-only k (c .0) g),
+    λ all.
+        let to : Subset (getD m i 0) (2 ^ k) = λ j g. let s = x .sound i j g in rw (all (s .by) (s .ok)) at (s .gives) in
+        let f = full o x i r in
+        subset-antisym to (pow-subset (subst (λ (n : ℕ). Has (getD m i 0) n) (has-pow-only k (f .0) (to (f .0) (f .1))) (f .1))),
+  )
+
+-- the cell that a set is read as
+cell-one : (s : ℕ) → (cellOf s ≡ 1) ↔ (s ≡ 1)
+cell-one zero = (λ e. e, λ e. e)
+cell-one (suc zero) = (λ e. e, λ e. e)
+cell-one (suc (suc zero)) = (λ e. e, λ e. e)
+cell-one (suc (suc (suc n))) = (λ e. omega arith, λ e. omega arith)
+
+cell-two : (s : ℕ) → (cellOf s ≡ 2) ↔ (s ≡ 2)
+cell-two zero = (λ e. e, λ e. e)
+cell-two (suc zero) = (λ e. e, λ e. e)
+cell-two (suc (suc zero)) = (λ e. e, λ e. e)
+cell-two (suc (suc (suc n))) = (λ e. omega arith, λ e. omega arith)
+
+module _ {P : List ℕ → Type 0} (o : (p : List ℕ) → P p → Proper p) {l m : List ℕ} (x : Exact P l m) (i : ℕ) (r : i < length l) where
+  -- white, black, or undefined where they differ
+  pub binary-white : (getD (map cellOf m) i 0 ≡ 1) ↔ ((p : List ℕ) → Fitting P l p → getD p i 0 ≡ 1)
+  binary-white = (
+    λ e. all-say o x i r 0 .0 (cell-one (getD m i 0) .0 (rw (List·getD-map cellOf m i 0) at e)),
+    λ f. rw (List·getD-map cellOf m i 0) (cell-one (getD m i 0) .1 (all-say o x i r 0 .1 f)),
+  )
+
+  pub binary-black : (getD (map cellOf m) i 0 ≡ 2) ↔ ((p : List ℕ) → Fitting P l p → getD p i 0 ≡ 2)
+  binary-black = (
+    λ e. all-say o x i r 1 .0 (cell-two (getD m i 0) .0 (rw (List·getD-map cellOf m i 0) at e)),
+    λ f. rw (List·getD-map cellOf m i 0) (cell-two (getD m i 0) .1 (all-say o x i r 1 .1 f)),
+  )

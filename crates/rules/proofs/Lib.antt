@@ -1,0 +1,24 @@
+-- The laws of the paper, in the order of its definitions.
+pub mod Tests
+pub mod Lists
+pub mod Colours
+pub mod Blocks
+pub mod Placements
+pub mod Answers
+pub mod Binaries
+pub mod Packings
+pub mod Ranges
+pub mod Clues
+pub mod Codes
+pub mod Verdicts
+pub mod Replies
+pub mod Table
+pub mod Boards
+pub mod Readings
+pub mod Settled
+pub mod Stacks
+pub mod Rooms
+pub mod Runs
+pub mod RunSteps
+pub mod Cards
+pub mod Examples

@@ -1,0 +1,84 @@
+// The rules on lengths and blocks that several layers share. Each is found before anything is written.
+use crate::Refusal;
+use crate::Verdict;
+ghost use mathlib.Core.Path.{_≡_};
+ghost use mathlib.Core.Bool.{_&&_};
+ghost use lib.Dec.{leb};
+ghost use lib.ListN.{length};
+ghost use Rattle.rules.specs.Block.{blocks, coloured, illegalColour, illegalBlock, illegal};
+ghost use Rattle.rules.specs.Refusal.{verdict, lengthRules, blockRules};
+
+// A colour that is blank, or has not exactly one bit.
+pub fn illegal_colour(colour: u32) -> bool
+    ensures { λ r. ⌜ r ≡ illegalColour colour ⌝ }
+{
+    if colour == 1 {
+        return true;
+    }
+    u32::count_ones(colour) != 1
+}
+
+fn illegal_block(size: u32, colour: u32) -> bool
+    ensures { λ r. ⌜ r ≡ illegalBlock size colour ⌝ }
+{
+    if size == 0 {
+        return true;
+    }
+    illegal_colour(colour)
+}
+
+fn any_illegal(sizes: &[u32], colours: &[u32]) -> bool
+    requires { ⌜ length (now sizes) ≡ length (now colours) ⌝ }
+    ensures { λ r. ⌜ r ≡ illegal (blocks (now (sizes .entry)) (now (colours .entry))) ⌝ }
+{
+    let mut i = 0;
+    while i < sizes.len() {
+        if illegal_block(sizes[i], colours[i]) {
+            return true;
+        }
+        i += 1;
+    }
+    false
+}
+
+// Rule 1.
+pub fn judge_length(line_length: usize) -> Verdict
+    ensures { λ r. ⌜ r ≡ verdict (lengthRules «line_length») ⌝ }
+{
+    if line_length == 0 {
+        return Verdict::Bad(Refusal::BadLength);
+    }
+    if 64 < line_length {
+        return Verdict::Bad(Refusal::BadLength);
+    }
+    Verdict::Fine
+}
+
+// Rules 2, 3 and 4. `roomy`: the lists to write have room.
+pub fn judge_blocks(sizes: &[u32], colours: &[u32], roomy: bool) -> Verdict
+    ensures { λ r. ⌜ r ≡ verdict (blockRules (coloured (now (sizes .entry)) (now (colours .entry))) roomy) ⌝ }
+{
+    if sizes.len() != colours.len() {
+        return Verdict::Bad(Refusal::BadRoom);
+    }
+    if !roomy {
+        return Verdict::Bad(Refusal::BadRoom);
+    }
+    if 64 < sizes.len() {
+        return Verdict::Bad(Refusal::TooManyBlocks);
+    }
+    if any_illegal(sizes, colours) {
+        return Verdict::Bad(Refusal::BadBlock);
+    }
+    Verdict::Fine
+}
+
+// Whether two lists have room for `count` entries.
+pub fn both_room(count: usize, a: usize, b: usize) -> bool
+    ensures { λ r. ⌜ r ≡ (leb count a && leb count b) ⌝ }
+{
+    if a < count {
+        return false;
+    }
+    count <= b
+}
