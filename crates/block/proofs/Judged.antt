@@ -1,0 +1,144 @@
+-- The rules by the lengths that the code tests, and black blocks, which are what a binary list lends.
+use mathlib.Core.Path.{_≡_, refl, sym, ap, ap₂, _∙_}
+use mathlib.Core.Bool.{Bool, true, false, cond, not}
+use mathlib.Core.Logic.{inl, inr}
+use mathlib.Core.List.{List, [], _∷_, _++_, map}
+use Prim.Native.Nat.{ℕ, zero, suc, _-_, _≤_, _<_}
+use native.Mathlib.Omega.{arith}
+use borrow.Author.Tests.{ltb-false, eqb-true, not-false, eq-eqb, le-ltb, lt-ltb}
+use lib.Dec.{eqb, ltb}
+use lib.ListN.{length, take, replicate, length-map}
+use Rattle.rules.specs.Block.{Lent, black, blocks, coloured, binary, illegal}
+use Rattle.rules.specs.Packing.{minimalSpace}
+use Rattle.rules.specs.Refusal.{_when_, verdict, lengthRules, blockRules, spaceRules}
+use Rattle.rules.specs.declared.Refusal.{Refusal}
+use Rattle.rules.specs.declared.Refusal.the-variants.{BadRoom, TooManyBlocks, BadBlock, NoSpace}
+use Rattle.rules.specs.declared.Verdict.{Verdict}
+use Rattle.rules.specs.declared.Verdict.the-variants.{Fine, Bad}
+use Rattle.rules.proofs.Tests.{Compared, eqb-cases}
+use Rattle.rules.proofs.Blocks.{length-blocks}
+use Rattle.rules.proofs.Verdicts.{_then_, bad-not-fine, fine-cons, verdict-append, then-fine, length-fine, blocks-fine, Blocked}
+use Rattle.block.specs.Calls.{rangeRules, descriptionRules}
+use Rattle.block.specs.Steps.{countRules, pairRules, spaceOf}
+use Rattle.block.specs.declared.Space.the-variants.{Slack, Tight}
+
+-- ---- counts
+
+pub record Counted (n : ℕ) (roomy : Bool) : Type 0 where
+  pub room : roomy ≡ true
+  pub few : n ≤ 64
+
+pub count-fine : (n : ℕ) (roomy : Bool) → verdict (countRules n roomy) ≡ Fine → Counted n roomy
+count-fine n roomy e =
+    let p = fine-cons (BadRoom when not roomy) (TooManyBlocks when ltb 64 n ∷ []) e in
+    record { room = not-false roomy (p .0); few = ltb-false 64 n (fine-cons (TooManyBlocks when ltb 64 n) [] (p .1) .0) }
+
+pub pair-counted : (m n : ℕ) (roomy : Bool) → verdict (pairRules m n roomy) ≡ Fine → (m ≡ n) × (roomy ≡ true)
+pair-counted m n roomy e =
+    let p = fine-cons (BadRoom when not (eqb m n)) (countRules m roomy) e in
+    (eqb-true m n (not-false (eqb m n) (p .0)), count-fine m roomy (p .1) .room)
+
+-- the rules of Description::new, by the lengths of the two lists
+pub description-same : (ns cs : List ℕ) (f : ℕ → Bool)
+    → verdict (descriptionRules (coloured ns cs) (f (length (blocks ns cs)))) ≡ verdict (pairRules (length ns) (length cs) (f (length ns)))
+description-same ns cs f = go (eqb-cases (length ns) (length cs))
+  where
+    go : Compared (length ns) (length cs)
+        → verdict (descriptionRules (coloured ns cs) (f (length (blocks ns cs)))) ≡ verdict (pairRules (length ns) (length cs) (f (length ns)))
+    go (inl p) = ap (λ n. verdict (BadRoom when not (eqb (length ns) (length cs)) ∷ countRules n (f n))) (length-blocks ns cs (p .0))
+    go (inr p) = rw (p .1)
+
+-- ---- black blocks
+
+pub black-blocks : (ns : List ℕ) (k : ℕ) → length ns ≤ k → blocks ns (take (length ns) (replicate k 2)) ≡ map black ns
+black-blocks [] k h = refl
+black-blocks (n ∷ ns) zero h = absurd (omega arith)
+black-blocks (n ∷ ns) (suc k) h = ap (λ l. black n ∷ l) (black-blocks ns k (omega arith))
+
+pub blacks-length : (n k : ℕ) → n ≤ k → length (take n (replicate k (suc (suc zero)))) ≡ n
+blacks-length zero k h = refl
+blacks-length (suc n) zero h = absurd (omega arith)
+blacks-length (suc n) (suc k) h = ap suc (blacks-length n k (omega arith))
+
+pub black-lent : (ns : List ℕ) → length ns ≤ 64 → coloured ns (take (length ns) (replicate 64 2)) ≡ binary ns
+black-lent ns h = ap₂ (λ t l. record { paired = t; list = l }) (eq-eqb _ _ (sym (blacks-length (length ns) 64 h))) (black-blocks ns 64 h)
+
+-- what the binary call refuses, the coloured rules of black blocks refuse alike
+pub count-bad : (ns : List ℕ) (f : ℕ → Bool) (w : Refusal) → verdict (countRules (length ns) (f (length ns))) ≡ Bad w
+    → verdict (blockRules (binary ns) (f (length (map black ns)))) ≡ Bad w
+count-bad ns f w e =
+    go (not (f (length (map black ns)))) (ltb 64 (length (map black ns))) (ap (λ n. verdict (countRules n (f n))) (length-map ns black) ∙ e)
+  where
+    go : (s t : Bool) → cond s (Bad BadRoom) (cond t (Bad TooManyBlocks) Fine) ≡ Bad w
+        → cond s (Bad BadRoom) (cond t (Bad TooManyBlocks) (cond (illegal (map black ns)) (Bad BadBlock) Fine)) ≡ Bad w
+    go true t q = q
+    go false true q = q
+    go false false q = absurd (bad-not-fine (sym q))
+
+-- ---- the space that is left
+
+pub slack-is : (v : Verdict) (n k : ℕ) → spaceOf v n ≡ Slack k → (v ≡ Fine) × (k ≡ n)
+slack-is Fine n k e = (refl, cc)
+slack-is (Bad w) n k e = let z : _≡_ {A = ℕ} 0 1 = cc in absurd (omega arith)
+
+pub tight-is : (v : Verdict) (n : ℕ) {w : Refusal} → spaceOf v n ≡ Tight w → v ≡ Bad w
+tight-is Fine n e = let z : _≡_ {A = ℕ} 0 1 = cc in absurd (omega arith)
+tight-is (Bad u) n e = cc
+
+module _ (n : ℕ) (ns cs : List ℕ) (r : ℕ) (e : r ≡ minimalSpace (blocks ns cs)) where
+  pub space-tight : n < r → Tight NoSpace ≡ spaceOf (verdict (spaceRules n (coloured ns cs))) (n - minimalSpace (blocks ns cs))
+  space-tight h = rw (lt-ltb n (minimalSpace (blocks ns cs)) (rw e at h))
+
+  pub space-slack : r ≤ n → Slack (n - r) ≡ spaceOf (verdict (spaceRules n (coloured ns cs))) (n - minimalSpace (blocks ns cs))
+  space-slack h = rw (e, le-ltb n (minimalSpace (blocks ns cs)) (rw e at h))
+
+-- ---- the rules of positions and ranges, one group after the other
+
+module _ (n : ℕ) (b : Lent) (t : Bool) where
+  pub range-split : verdict (rangeRules n b t) ≡ verdict (lengthRules n) then verdict (blockRules b t) then verdict (spaceRules n b)
+  range-split =
+      verdict-append (lengthRules n) (blockRules b t ++ spaceRules n b)
+      ∙ ap (λ v. verdict (lengthRules n) then v) (verdict-append (blockRules b t) (spaceRules n b))
+
+  pub range-length : {w : Refusal} → verdict (lengthRules n) ≡ Bad w → verdict (rangeRules n b t) ≡ Bad w
+  range-length e = range-split ∙ rw e
+
+  pub range-blocks : {w : Refusal} → verdict (lengthRules n) ≡ Fine → verdict (blockRules b t) ≡ Bad w → verdict (rangeRules n b t) ≡ Bad w
+  range-blocks d e = range-split ∙ rw (d, e)
+
+  pub range-space : verdict (lengthRules n) ≡ Fine → verdict (blockRules b t) ≡ Fine → verdict (rangeRules n b t) ≡ verdict (spaceRules n b)
+  range-space d e = range-split ∙ rw (d, e)
+
+  -- what is known where none is broken
+  pub record InRange : Type 0 where
+    pub short : n ≤ 64
+    pub blocked : Blocked b t
+    pub fits : minimalSpace (b .list) ≤ n
+
+  pub range-fine : verdict (rangeRules n b t) ≡ Fine → InRange
+  range-fine e =
+      let p = then-fine (verdict (lengthRules n)) (verdict (blockRules b t) then verdict (spaceRules n b)) (sym range-split ∙ e) in
+      let q = then-fine (verdict (blockRules b t)) (verdict (spaceRules n b)) (p .1) in
+      record {
+        short = length-fine n (p .0) .1;
+        blocked = blocks-fine b t (q .0);
+        fits = ltb-false n (minimalSpace (b .list)) (fine-cons (NoSpace when ltb n (minimalSpace (b .list))) [] (q .1) .0);
+      }
+
+-- ---- the binary rules of positions, which has no room to judge
+
+pub length-count-few : (n m : ℕ) → verdict (lengthRules n ++ countRules m true) ≡ Fine → m ≤ 64
+length-count-few n m e =
+    count-fine m true
+    (then-fine (verdict (lengthRules n)) (verdict (countRules m true)) (sym (verdict-append (lengthRules n) (countRules m true)) ∙ e) .1)
+    .few
+
+pub length-count-bad : (n : ℕ) (ns : List ℕ) (w : Refusal) → verdict (lengthRules n ++ countRules (length ns) true) ≡ Bad w
+    → verdict (rangeRules n (binary ns) true) ≡ Bad w
+length-count-bad n ns w e =
+    range-split n (binary ns) true ∙ go (verdict (lengthRules n)) (sym (verdict-append (lengthRules n) (countRules (length ns) true)) ∙ e)
+  where
+    go : (v : Verdict) → v then verdict (countRules (length ns) true) ≡ Bad w
+        → v then verdict (blockRules (binary ns) true) then verdict (spaceRules n (binary ns)) ≡ Bad w
+    go Fine q = rw (count-bad ns (λ m. true) w q)
+    go (Bad u) q = q

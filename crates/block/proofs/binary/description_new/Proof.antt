@@ -1,0 +1,50 @@
+-- `binary::description_new` meets its contract: the rules, and then the pass.
+use mathlib.Core.Path.{sym, _∙_}
+use Rattle.block.proofs.Told.{binary-refused, binary-room, binary-done}
+use borrow.Author.Needs.{needs}
+use Rattle.block.proofs.binary.description_new.Statement.{statement}
+use Rattle.block.proofs.binary.description_new.Tie as tie
+
+judge-count-requires : tie.Need-judge-count-requires
+judge-count-requires c κs = search needs
+
+enum-known-v : tie.Need-enum-known-v
+enum-known-v c = search needs
+
+enum-told : tie.Need-enum-told
+enum-told c = search needs
+
+retain-requires : tie.Need-retain-requires
+retain-requires c κs =
+    let args = c .before .before .before .before .before .before .args in
+    let judge-count = c .before .before .before .judge-count in
+    binary-room (args .sizes .now) (args .out-sizes .now) (sym (judge-count .ensures) ∙ c .before .enum-told .given .1)
+
+returns : tie.Need-returns
+returns c =
+    let args = c .before .before .before .before .before .before .args in
+    let judge-count = c .before .before .before .judge-count in
+    binary-refused (args .sizes .now) (args .out-sizes .now) (sym (judge-count .ensures) ∙ c .before .v .given .1)
+
+same-length : tie.Need-same-length
+same-length c = search needs
+
+returns-2 : tie.Need-returns-2
+returns-2 c =
+    let args = c .before .before .before .before .before .before .before .before .before .args in
+    let judge-count = c .before .before .before .before .before .before .judge-count in
+    let enum-told = c .before .before .before .before .enum-told in
+    let retain = c .before .before .retain in
+    binary-done (args .sizes .now) (args .out-sizes .now) (sym (judge-count .ensures) ∙ enum-told .given .1) (retain .ensures)
+
+pub description-new-spec : {M : Type 1} → statement M
+description-new-spec =
+    tie.close
+    (tie.spec
+    judge-count-requires
+    enum-known-v
+    enum-told
+    retain-requires
+    returns
+    same-length
+    returns-2)
