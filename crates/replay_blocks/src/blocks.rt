@@ -1,0 +1,117 @@
+// Replays the calls on blocks. A case has a length, sizes and colours, then the answer's value and four lists, of 32 and of 64 bits:
+// a call takes and writes those that it has, and the others are 0 and empty.
+use block::NumberAnswer;
+use block::binary;
+use block::multicolor;
+use rules::ListAnswer;
+use vectors::lists;
+use vectors::lists::Found;
+use vectors::reader::Reader;
+use vectors::reader::demand;
+
+// A value that no call of a case answers.
+const NO_VALUE: u64 = u64::MAX;
+
+fn value_of(answer: ListAnswer) -> u64 {
+    match answer {
+        ListAnswer::Done { entries } => entries as u64,
+        ListAnswer::Refused(_) => NO_VALUE,
+    }
+}
+
+fn number_of(answer: NumberAnswer) -> u64 {
+    match answer {
+        NumberAnswer::Number(number) => number,
+        NumberAnswer::Refused(_) => NO_VALUE,
+    }
+}
+
+fn call_blocks(
+    call: u64,
+    length: usize,
+    sizes: &[u32],
+    colours: &[u32],
+    codes: &mut [u32],
+    more_codes: &mut [u32],
+    sums: &mut [u64],
+    more_sums: &mut [u64],
+) -> u64 {
+    match call {
+        1 => value_of(multicolor::partial_sums(sizes, colours, sums)),
+        2 => value_of(multicolor::block_starts(sizes, colours, sums)),
+        3 => number_of(multicolor::positions_number(length, sizes, colours)),
+        4 => value_of(multicolor::color_ranges(length, sizes, colours, codes, sums, more_sums)),
+        5 => value_of(multicolor::description_new(sizes, colours, codes, more_codes)),
+        8 => value_of(binary::partial_sums(sizes, sums)),
+        9 => value_of(binary::block_starts(sizes, sums)),
+        10 => number_of(binary::positions_number(length, sizes)),
+        _ => value_of(binary::description_new(sizes, codes)),
+    }
+}
+
+fn compare_lists(
+    buffer: &mut [u8],
+    found: Found,
+    codes: &[u32],
+    more_codes: &[u32],
+    sums: &[u64],
+    more_sums: &[u64],
+) -> Found {
+    let found = lists::compare(buffer, found, codes);
+    let found = lists::compare(buffer, found, more_codes);
+    let found = lists::compare_wide(buffer, found, sums);
+    lists::compare_wide(buffer, found, more_sums)
+}
+
+// Makes the call on filled lists, and compares.
+fn compare_call(
+    call: u64,
+    length: usize,
+    sizes: &[u32],
+    colours: &[u32],
+    buffer: &mut [u8],
+    reader: Reader,
+) -> Found {
+    let mut codes = lists::make_filled();
+    let mut more_codes = lists::make_filled();
+    let mut sums = lists::make_filled_wide();
+    let mut more_sums = lists::make_filled_wide();
+    let value = call_blocks(
+        call,
+        length,
+        sizes,
+        colours,
+        &mut codes,
+        &mut more_codes,
+        &mut sums,
+        &mut more_sums,
+    );
+    let found = lists::compare_number(
+        buffer,
+        Found {
+            differing: 0,
+            reader,
+        },
+        value,
+    );
+    compare_lists(buffer, found, &codes, &more_codes, &sums, &more_sums)
+}
+
+pub(crate) fn replay(call: u64, buffer: &mut [u8], reader: Reader) -> Found {
+    let mut sizes = lists::make();
+    let mut colours = lists::make();
+    let length = demand(buffer, reader, u64::MAX);
+    let reader = length.reader;
+    let pair = lists::read_pair(buffer, reader, &mut sizes, &mut colours);
+    let first = pair.first;
+    let second = pair.second;
+    let reader = pair.reader;
+    compare_call(
+        call,
+        length.value as usize,
+        &sizes[..first],
+        &colours[..second],
+        buffer,
+        reader,
+    )
+}

@@ -1,0 +1,51 @@
+#!/bin/bash
+# Builds the oracle from the crate's own sources, twice: OUT/driver-untouched, and OUT/driver-stable, in which the one unstable
+# sort of propagation.rs is made stable. CRATE_DIR holds the crate's src/. README.md names the packages that this needs.
+# Usage: build.sh CRATE_DIR OUT
+set -eu
+if [ $# -ne 2 ]; then
+  echo "usage: $0 CRATE_DIR OUT" >&2
+  exit 2
+fi
+here=$(cd "$(dirname "$0")" && pwd)
+crate=$(cd "$1" && pwd)/src
+mkdir -p "$2"
+out=$(cd "$2" && pwd)
+registry=${DEBIAN_CARGO_REGISTRY:-/usr/share/cargo/registry}
+files="block.rs block/base.rs block/binary.rs block/multicolor.rs board.rs cache.rs utils.rs solver/line.rs solver/propagation.rs"
+
+# Lays out a cargo project of the shell here and the crate's files in the folder $1.
+lay_out() {
+  mkdir -p "$1/src/block" "$1/src/solver" "$1/bin" "$1/.cargo"
+  cp "$here/Cargo.toml" "$1/"
+  cp "$here/lib.rs" "$here/solver.rs" "$1/src/"
+  cp "$here/driver.rs" "$here/trace.rs" "$1/bin/"
+  for f in $files; do cp "$crate/$f" "$1/src/$f"; done
+  cat > "$1/.cargo/config.toml" <<CONFIG
+[source.crates-io]
+replace-with = "debian"
+
+[source.debian]
+directory = "$registry"
+
+[net]
+offline = true
+CONFIG
+}
+
+# Makes the one unstable sort stable, and fails if there is not exactly one.
+make_stable() {
+  if [ "$(grep -c 'sort_unstable' "$1")" -ne 1 ]; then
+    echo "$0: $1 has not exactly one unstable sort" >&2
+    exit 1
+  fi
+  sed -i 's/sort_unstable_by_key(/sort_by_key(/' "$1"
+}
+
+for kind in untouched stable; do
+  work=$out/build-$kind
+  lay_out "$work"
+  if [ $kind = stable ]; then make_stable "$work/src/solver/propagation.rs"; fi
+  (cd "$work" && cargo build --release --offline -j1)
+  cp "$work/target/release/driver" "$out/driver-$kind"
+done
