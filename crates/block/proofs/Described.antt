@@ -1,13 +1,11 @@
--- The loops of Description::new: what is kept of the blocks from index i on.
+-- The loop of Description::new: what is kept of the blocks from index i on.
 use mathlib.Core.Path.{_≡_}
 use mathlib.Core.Bool.{Bool, true, false, cond}
-use mathlib.Core.List.{List, [], _∷_, _++_, map}
+use mathlib.Core.List.{List, [], _∷_, _++_}
 use Prim.Native.Nat.{ℕ, suc, _+_, _≤_, _<_}
-use native.Mathlib.Numerals.{add-one}
 use native.Mathlib.Omega.{arith}
 use lib.ListN.{length, drop, getD}
-use lib.Seq.{drop-cons}
-use Rattle.rules.specs.Block.{Block, _of_, black, blocks}
+use Rattle.rules.specs.Block.{Block, _of_, blocks}
 use Rattle.rules.specs.Clue.{isDefault, described}
 use Rattle.rules.proofs.Blocks.{blocks-step}
 
@@ -19,14 +17,6 @@ module _ (d : ℕ) (ns cs : List ℕ) (i : ℕ) (h : i < length ns) (e : length 
   pub keep-block : isDefault d (getD ns i 0) (getD cs i 0) ≡ false
       → described d (blocks (drop i ns) (drop i cs)) ≡ getD ns i 0 of getD cs i 0 ∷ described d (blocks (drop (i + 1) ns) (drop (i + 1) cs))
   keep-block q = rw (blocks-step ns cs i h e, q)
-
-module _ (d : ℕ) (ns : List ℕ) (i : ℕ) (h : i < length ns) where
-  pub drop-size : isDefault d (getD ns i 0) 2 ≡ true → described d (map black (drop i ns)) ≡ described d (map black (drop (i + 1) ns))
-  drop-size q = rw (add-one i, drop-cons ns i 0 h, q)
-
-  pub keep-size : isDefault d (getD ns i 0) 2 ≡ false
-      → described d (map black (drop i ns)) ≡ black (getD ns i 0) ∷ described d (map black (drop (i + 1) ns))
-  keep-size q = rw (add-one i, drop-cons ns i 0 h, q)
 
 pub length-described : (d : ℕ) (bs : List Block) → length (described d bs) ≤ length bs
 length-described d [] = omega arith

@@ -1,52 +1,23 @@
--- The rules by the lengths that the code tests, and black blocks, which are what a binary list lends.
+-- What a verdict on a line's blocks tells, and black blocks, which are what a binary list lends.
 use mathlib.Core.Path.{_≡_, refl, sym, ap, ap₂, _∙_}
-use mathlib.Core.Bool.{Bool, true, false, cond, not}
-use mathlib.Core.Logic.{inl, inr}
+use mathlib.Core.Bool.{Bool, true}
 use mathlib.Core.List.{List, [], _∷_, _++_, map}
 use Prim.Native.Nat.{ℕ, zero, suc, _-_, _≤_, _<_}
 use native.Mathlib.Omega.{arith}
-use borrow.Author.Tests.{ltb-false, eqb-true, not-false, eq-eqb, le-ltb, lt-ltb}
-use lib.Dec.{eqb, ltb}
+use borrow.Author.Tests.{ltb-false, eq-eqb, le-ltb, lt-ltb}
+use lib.Dec.{ltb}
 use lib.ListN.{length, take, replicate, length-map}
 use Rattle.rules.specs.Block.{Lent, black, blocks, coloured, binary, illegal}
 use Rattle.rules.specs.Packing.{minimalSpace}
-use Rattle.rules.specs.Refusal.{_when_, verdict, lengthRules, blockRules, spaceRules}
+use Rattle.rules.specs.Refusal.{_when_, verdict, lengthRules, countRules, blockRules, spaceRules}
 use Rattle.rules.specs.declared.Refusal.{Refusal}
-use Rattle.rules.specs.declared.Refusal.the-variants.{BadRoom, TooManyBlocks, BadBlock, NoSpace}
+use Rattle.rules.specs.declared.Refusal.the-variants.{BadBlock, NoSpace}
 use Rattle.rules.specs.declared.Verdict.{Verdict}
 use Rattle.rules.specs.declared.Verdict.the-variants.{Fine, Bad}
-use Rattle.rules.proofs.Tests.{Compared, eqb-cases}
-use Rattle.rules.proofs.Blocks.{length-blocks}
-use Rattle.rules.proofs.Verdicts.{_then_, bad-not-fine, fine-cons, verdict-append, then-fine, length-fine, blocks-fine, Blocked}
-use Rattle.block.specs.Calls.{rangeRules, descriptionRules}
-use Rattle.block.specs.Steps.{countRules, pairRules, spaceOf}
+use Rattle.rules.proofs.Verdicts.{_then_, fine-cons, verdict-append, append-bad, append-fine, append-parts, length-fine, count-fine, blocks-fine, Blocked}
+use Rattle.block.specs.Calls.{rangeRules}
+use Rattle.block.specs.Steps.{spaceOf}
 use Rattle.block.specs.declared.Space.the-variants.{Slack, Tight}
-
--- ---- counts
-
-pub record Counted (n : ℕ) (roomy : Bool) : Type 0 where
-  pub room : roomy ≡ true
-  pub few : n ≤ 64
-
-pub count-fine : (n : ℕ) (roomy : Bool) → verdict (countRules n roomy) ≡ Fine → Counted n roomy
-count-fine n roomy e =
-    let p = fine-cons (BadRoom when not roomy) (TooManyBlocks when ltb 64 n ∷ []) e in
-    record { room = not-false roomy (p .0); few = ltb-false 64 n (fine-cons (TooManyBlocks when ltb 64 n) [] (p .1) .0) }
-
-pub pair-counted : (m n : ℕ) (roomy : Bool) → verdict (pairRules m n roomy) ≡ Fine → (m ≡ n) × (roomy ≡ true)
-pair-counted m n roomy e =
-    let p = fine-cons (BadRoom when not (eqb m n)) (countRules m roomy) e in
-    (eqb-true m n (not-false (eqb m n) (p .0)), count-fine m roomy (p .1) .room)
-
--- the rules of Description::new, by the lengths of the two lists
-pub description-same : (ns cs : List ℕ) (f : ℕ → Bool)
-    → verdict (descriptionRules (coloured ns cs) (f (length (blocks ns cs)))) ≡ verdict (pairRules (length ns) (length cs) (f (length ns)))
-description-same ns cs f = go (eqb-cases (length ns) (length cs))
-  where
-    go : Compared (length ns) (length cs)
-        → verdict (descriptionRules (coloured ns cs) (f (length (blocks ns cs)))) ≡ verdict (pairRules (length ns) (length cs) (f (length ns)))
-    go (inl p) = ap (λ n. verdict (BadRoom when not (eqb (length ns) (length cs)) ∷ countRules n (f n))) (length-blocks ns cs (p .0))
-    go (inr p) = rw (p .1)
 
 -- ---- black blocks
 
@@ -64,16 +35,11 @@ pub black-lent : (ns : List ℕ) → length ns ≤ 64 → coloured ns (take (len
 black-lent ns h = ap₂ (λ t l. record { paired = t; list = l }) (eq-eqb _ _ (sym (blacks-length (length ns) 64 h))) (black-blocks ns 64 h)
 
 -- what the binary call refuses, the coloured rules of black blocks refuse alike
-pub count-bad : (ns : List ℕ) (f : ℕ → Bool) (w : Refusal) → verdict (countRules (length ns) (f (length ns))) ≡ Bad w
+pub count-bad : (ns : List ℕ) (f : ℕ → Bool) {w : Refusal} → verdict (countRules true (length ns) (f (length ns))) ≡ Bad w
     → verdict (blockRules (binary ns) (f (length (map black ns)))) ≡ Bad w
-count-bad ns f w e =
-    go (not (f (length (map black ns)))) (ltb 64 (length (map black ns))) (ap (λ n. verdict (countRules n (f n))) (length-map ns black) ∙ e)
-  where
-    go : (s t : Bool) → cond s (Bad BadRoom) (cond t (Bad TooManyBlocks) Fine) ≡ Bad w
-        → cond s (Bad BadRoom) (cond t (Bad TooManyBlocks) (cond (illegal (map black ns)) (Bad BadBlock) Fine)) ≡ Bad w
-    go true t q = q
-    go false true q = q
-    go false false q = absurd (bad-not-fine (sym q))
+count-bad ns f e =
+    append-bad (countRules true (length (map black ns)) (f (length (map black ns)))) (BadBlock when illegal (map black ns) ∷ [])
+    (ap (λ n. verdict (countRules true n (f n))) (length-map ns black) ∙ e)
 
 -- ---- the space that is left
 
@@ -101,13 +67,13 @@ module _ (n : ℕ) (b : Lent) (t : Bool) where
       ∙ ap (λ v. verdict (lengthRules n) then v) (verdict-append (blockRules b t) (spaceRules n b))
 
   pub range-length : {w : Refusal} → verdict (lengthRules n) ≡ Bad w → verdict (rangeRules n b t) ≡ Bad w
-  range-length e = range-split ∙ rw e
+  range-length e = append-bad (lengthRules n) (blockRules b t ++ spaceRules n b) e
 
   pub range-blocks : {w : Refusal} → verdict (lengthRules n) ≡ Fine → verdict (blockRules b t) ≡ Bad w → verdict (rangeRules n b t) ≡ Bad w
-  range-blocks d e = range-split ∙ rw (d, e)
+  range-blocks d e = append-fine (lengthRules n) (blockRules b t ++ spaceRules n b) d ∙ append-bad (blockRules b t) (spaceRules n b) e
 
   pub range-space : verdict (lengthRules n) ≡ Fine → verdict (blockRules b t) ≡ Fine → verdict (rangeRules n b t) ≡ verdict (spaceRules n b)
-  range-space d e = range-split ∙ rw (d, e)
+  range-space d e = append-fine (lengthRules n) (blockRules b t ++ spaceRules n b) d ∙ append-fine (blockRules b t) (spaceRules n b) e
 
   -- what is known where none is broken
   pub record InRange : Type 0 where
@@ -117,8 +83,8 @@ module _ (n : ℕ) (b : Lent) (t : Bool) where
 
   pub range-fine : verdict (rangeRules n b t) ≡ Fine → InRange
   range-fine e =
-      let p = then-fine (verdict (lengthRules n)) (verdict (blockRules b t) then verdict (spaceRules n b)) (sym range-split ∙ e) in
-      let q = then-fine (verdict (blockRules b t)) (verdict (spaceRules n b)) (p .1) in
+      let p = append-parts (lengthRules n) (blockRules b t ++ spaceRules n b) e in
+      let q = append-parts (blockRules b t) (spaceRules n b) (p .1) in
       record {
         short = length-fine n (p .0) .1;
         blocked = blocks-fine b t (q .0);
@@ -127,18 +93,11 @@ module _ (n : ℕ) (b : Lent) (t : Bool) where
 
 -- ---- the binary rules of positions, which has no room to judge
 
-pub length-count-few : (n m : ℕ) → verdict (lengthRules n ++ countRules m true) ≡ Fine → m ≤ 64
-length-count-few n m e =
-    count-fine m true
-    (then-fine (verdict (lengthRules n)) (verdict (countRules m true)) (sym (verdict-append (lengthRules n) (countRules m true)) ∙ e) .1)
-    .few
+pub length-count-few : (n m : ℕ) → verdict (lengthRules n ++ countRules true m true) ≡ Fine → m ≤ 64
+length-count-few n m e = count-fine true m true (append-parts (lengthRules n) (countRules true m true) e .1) .few
 
-pub length-count-bad : (n : ℕ) (ns : List ℕ) (w : Refusal) → verdict (lengthRules n ++ countRules (length ns) true) ≡ Bad w
+pub length-count-bad : (n : ℕ) (ns : List ℕ) {w : Refusal} → verdict (lengthRules n ++ countRules true (length ns) true) ≡ Bad w
     → verdict (rangeRules n (binary ns) true) ≡ Bad w
-length-count-bad n ns w e =
-    range-split n (binary ns) true ∙ go (verdict (lengthRules n)) (sym (verdict-append (lengthRules n) (countRules (length ns) true)) ∙ e)
-  where
-    go : (v : Verdict) → v then verdict (countRules (length ns) true) ≡ Bad w
-        → v then verdict (blockRules (binary ns) true) then verdict (spaceRules n (binary ns)) ≡ Bad w
-    go Fine q = rw (count-bad ns (λ m. true) w q)
-    go (Bad u) q = q
+length-count-bad n ns e =
+    append-bad (lengthRules n ++ countRules true (length (map black ns)) true) (BadBlock when illegal (map black ns) ∷ spaceRules n (binary ns))
+    (ap (λ m. verdict (lengthRules n ++ countRules true m true)) (length-map ns black) ∙ e)

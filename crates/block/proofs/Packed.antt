@@ -14,7 +14,6 @@ use Rattle.rules.specs.Packing.{next, total, sumsFrom, startsFrom}
 use Rattle.block.specs.Steps.{gapNext, edge, edgesFrom}
 use Rattle.rules.specs.Block.{Block, _of_, blocks}
 use Rattle.rules.specs.Placement.{one, gap, pieces}
-use Rattle.rules.specs.Refusal.{left}
 
 -- ---- the gap between a block and the next, by the list of colours
 

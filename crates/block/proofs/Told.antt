@@ -1,35 +1,35 @@
 -- The statements of the public calls, from what their parts tell.
-use mathlib.Core.Path.{_≡_, sym, ap, _∙_}
+use lib.ListN.{take, replicate, length, length-map}
+use mathlib.Core.Path.{subst, _≡_, sym, ap, _∙_}
+use Rattle.block.proofs.Judged.{black-blocks, blacks-length, slack-is, tight-is, range-fine, range-split}
+use Rattle.rules.proofs.Replies.{same, writes-refused, writes-done, blocks-refused, blocks-done}
+use Rattle.rules.proofs.Verdicts.{Counted, count-fine, blocks-fine, pair-fine, count-same, room-same}
 use mathlib.Core.Bool.{Bool, true, _&&_}
 use mathlib.Core.List.{List, [], _∷_, map}
 use Prim.Native.Nat.{ℕ, _+_, _-_, _≤_}
 use native.Mathlib.Omega.{arith}
 use borrow.Author.Tests.{leb-true, eqb-true}
-use lib.Dec.{leb}
-use lib.ListN.{length, length-map}
+use lib.Dec.{eqb, leb}
 use lib.Seq.{sets}
 use Rattle.rules.specs.Block.{Block, Lent, black, sizesOf, coloursOf, blocks, coloured, binary}
 use Rattle.rules.specs.Packing.{minimalSpace}
 use Rattle.rules.specs.Ranges.{rangeColours, rangeStart, rangeEnd}
 use Rattle.rules.specs.Clue.{colouredDefault, binaryDefault, described}
-use Rattle.rules.specs.Refusal.{verdict, blockRules, Writes}
+use Rattle.rules.specs.Refusal.{Rule, verdict, countRules, blockRules, Writes}
 use Rattle.rules.specs.declared.Refusal.{Refusal}
 use Rattle.rules.specs.declared.Verdict.the-variants.{Fine, Bad}
 use Rattle.rules.specs.declared.ListAnswer.the-variants.{Done, Refused}
-use Rattle.rules.proofs.Tests.{both-true}
+use Rattle.rules.proofs.Tests.{both-true, rooms}
 use Rattle.rules.proofs.Blocks.{length-blocks, colours-back}
-use Rattle.rules.proofs.Verdicts.{blocks-fine, pair-fine, room-same}
-use Rattle.rules.proofs.Replies.{writes-refused, writes-done, blocks-refused, blocks-done}
 use Rattle.loops.specs.Put.{Put}
 use Rattle.loops.proofs.Going.{written-sets, put-count, put-written}
 use Rattle.block.specs.Calls.{roomy, rangeRules, descriptionRules, PositionsNumber, ColorRanges, ColouredDescription, BinaryDescription}
-use Rattle.block.specs.Steps.{Paired, Packable, edgesFrom, countRules, pairRules, spaceOf, RangesFit, RangesOf, Retainable, Retained}
+use Rattle.block.specs.Steps.{Paired, Packable, edgesFrom, spaceOf, RangesFit, RangesOf, Retainable, Retained}
 use Rattle.block.specs.declared.NumberAnswer.the-variants as Numbers
 use Rattle.block.specs.declared.Space.the-variants.{Slack, Tight}
 use Rattle.block.proofs.Packed.{length-edges}
 use Rattle.block.proofs.Ranged.{length-new}
 use Rattle.block.proofs.Described.{length-described}
-use Rattle.block.proofs.Judged.{count-fine, pair-counted, description-same, slack-is, tight-is, range-fine, range-split}
 
 pub paired : (ns cs : List ℕ) (t : Bool) → verdict (blockRules (coloured ns cs) t) ≡ Fine → Paired ns cs
 paired ns cs t e = let p = pair-fine ns cs t e in record { equal = p .0; few = p .1 }
@@ -47,7 +47,7 @@ module _ (ns cs out : List ℕ) where
         record {
           paired = paired ns cs (leb (length ns) (length out)) e;
           room = leb-true (length ns) (length out)
-              (blocks-fine (coloured ns cs) (leb (length ns) (length out)) e .room);
+              (blocks-fine (coloured ns cs) (leb (length ns) (length out)) e .counted .room);
         }
 
     pub packed : (ends : Bool) (f : List Block → List ℕ) → ((bs : List Block) → edgesFrom ends 0 bs ≡ f bs) → {out′ : List ℕ}
@@ -107,15 +107,17 @@ module _ (n : ℕ) (ns cs ids from to : List ℕ) (t : Bool) (te : t ≡ (leb (l
     pub color-fit : RangesFit ns cs k ids from to
     color-fit =
         let r = range-fine n b t fine in
-        let q = eqb-true (length ns) (length cs) (r .blocked .paired) in
-        let u = both-true (leb (length ns) (length ids)) (leb (length ns) (length from) && leb (length ns) (length to)) (sym te ∙ r .blocked .room) in
-        let v = both-true (leb (length ns) (length from)) (leb (length ns) (length to)) (u .1) in
+        let q = eqb-true (length ns) (length cs) (r .blocked .counted .one-length) in
+        let u =
+        both-true (leb (length ns) (length ids)) (leb (length ns) (length from) && leb (length ns) (length to))
+        (sym te ∙ r .blocked .counted .room) in
+        let v = rooms (length ns) (length from) (length to) (u .1) in
         record {
-          paired = record { equal = q; few = omega (arith, r .blocked .few, length-blocks ns cs q) };
+          paired = record { equal = q; few = omega (arith, r .blocked .counted .few, length-blocks ns cs q) };
           low = omega (arith, space, r .short);
           ids-room = omega (arith, q, leb-true (length ns) (length ids) (u .0));
-          from-room = omega (arith, q, leb-true (length ns) (length from) (v .0));
-          to-room = omega (arith, q, leb-true (length ns) (length to) (v .1));
+          from-room = omega (arith, q, v .0);
+          to-room = omega (arith, q, v .1);
         }
 
     pub color-done : {r : ℕ} {ids′ from′ to′ : List ℕ} → RangesOf (blocks ns cs) k ids from to r ids′ from′ to′
@@ -142,22 +144,25 @@ module _ (n : ℕ) (ns cs ids from to : List ℕ) (t : Bool) (te : t ≡ (leb (l
 -- ---- Description::new
 
 module _ (ns cs os oc : List ℕ) (t : Bool) (te : t ≡ (leb (length ns) (length os) && leb (length ns) (length oc))) where
-  same-rules : verdict (descriptionRules (coloured ns cs) (roomy (coloured ns cs) os && roomy (coloured ns cs) oc)) ≡ verdict
-      (pairRules (length ns) (length cs) t)
-  same-rules = description-same ns cs (λ n. leb n (length os) && leb n (length oc)) ∙ ap (λ u. verdict (pairRules (length ns) (length cs) u)) (sym te)
+  abbrev rules : List Rule
+  rules = countRules (eqb (length ns) (length cs)) (length ns) t
 
-  pub description-refused : {w : Refusal} → verdict (pairRules (length ns) (length cs) t) ≡ Bad w
-      → ColouredDescription (coloured ns cs) os oc (Refused w) os oc
+  same-rules : verdict (descriptionRules (coloured ns cs) (roomy (coloured ns cs) os && roomy (coloured ns cs) oc)) ≡ verdict rules
+  same-rules =
+      count-same ns cs (λ n. leb n (length os) && leb n (length oc))
+      ∙ ap (λ u. verdict (countRules (eqb (length ns) (length cs)) (length ns) u)) (sym te)
+
+  pub description-refused : {w : Refusal} → verdict rules ≡ Bad w → ColouredDescription (coloured ns cs) os oc (Refused w) os oc
   description-refused e = blocks-refused (same-rules ∙ e)
 
-  module _ (e : verdict (pairRules (length ns) (length cs) t) ≡ Fine) where
+  module _ (e : verdict rules ≡ Fine) where
     pub retainable : Retainable ns cs os oc
     retainable =
-        let p = pair-counted (length ns) (length cs) t e in
-        let q = both-true (leb (length ns) (length os)) (leb (length ns) (length oc)) (sym te ∙ p .1) in
-        record { equal = p .0; sizes-room = leb-true (length ns) (length os) (q .0); colours-room = leb-true (length ns) (length oc) (q .1) }
+        let p = count-fine (eqb (length ns) (length cs)) (length ns) t e in
+        let q = rooms (length ns) (length os) (length oc) (sym te ∙ p .room) in
+        record { equal = eqb-true (length ns) (length cs) (p .one-length); sizes-room = q .0; colours-room = q .1 }
 
-    pub description-done : {n : ℕ} {os′ oc′ : List ℕ} → Retained (blocks ns cs) os oc n os′ oc′
+    pub description-done : {n : ℕ} {os′ oc′ : List ℕ} → Retained colouredDefault (blocks ns cs) os oc n os′ oc′
         → ColouredDescription (coloured ns cs) os oc (Done n) os′ oc′
     description-done p =
         let bs = described colouredDefault (blocks ns cs) in
@@ -168,22 +173,35 @@ module _ (ns cs os oc : List ℕ) (t : Bool) (te : t ≡ (leb (length ns) (lengt
         blocks-done (same-rules ∙ e) (put-count (p .size-list) ∙ s) (put-written (p .size-list) (omega (arith, r .sizes-room)))
         (put-written (p .colour-list) (omega (arith, r .colours-room)))
 
--- binary: one list
+-- binary: black blocks, of which the colours are not told
 module _ (ns out : List ℕ) where
-  same-count : verdict (descriptionRules (binary ns) (roomy (binary ns) out)) ≡ verdict (countRules (length ns) (leb (length ns) (length out)))
-  same-count = ap (λ n. verdict (countRules n (leb n (length out)))) (length-map ns black)
+  same-count : verdict (descriptionRules (binary ns) (roomy (binary ns) out)) ≡ verdict (countRules true (length ns) (leb (length ns) (length out)))
+  same-count = ap (λ n. verdict (countRules true n (leb n (length out)))) (length-map ns black)
 
-  pub binary-refused : {w : Refusal} → verdict (countRules (length ns) (leb (length ns) (length out))) ≡ Bad w
+  pub binary-refused : {w : Refusal} → verdict (countRules true (length ns) (leb (length ns) (length out))) ≡ Bad w
       → BinaryDescription (binary ns) out (Refused w) out
   binary-refused e = writes-refused (same-count ∙ e)
 
-  module _ (e : verdict (countRules (length ns) (leb (length ns) (length out))) ≡ Fine) where
-    pub binary-room : length ns ≤ length out
-    binary-room = leb-true (length ns) (length out) (count-fine (length ns) (leb (length ns) (length out)) e .room)
+  module _ (e : verdict (countRules true (length ns) (leb (length ns) (length out))) ≡ Fine) where
+    binary-counted : Counted true (length ns) (leb (length ns) (length out))
+    binary-counted = count-fine true (length ns) (leb (length ns) (length out)) e
 
-    pub binary-done : {n : ℕ} {out′ : List ℕ} → Put out 0 (sizesOf (described binaryDefault (map black ns))) n out′
+    pub binary-few : length ns ≤ 64
+    binary-few = binary-counted .few
+
+    room : length ns ≤ length out
+    room = leb-true (length ns) (length out) (binary-counted .room)
+
+    pub binary-retainable : Retainable ns (take (length ns) (replicate 64 2)) out (replicate 64 0)
+    binary-retainable = record { equal = sym (blacks-length (length ns) 64 binary-few); sizes-room = room; colours-room = binary-few }
+
+    pub binary-done : {n : ℕ} {out′ tints tints′ : List ℕ}
+        → Retained binaryDefault (blocks ns (take (length ns) (replicate 64 2))) out tints n out′ tints′
         → BinaryDescription (binary ns) out (Done n) out′
-    binary-done p =
+    binary-done {n} {out′} p =
         let bs = described binaryDefault (map black ns) in
-        writes-done (same-count ∙ e) (put-count p)
-        (put-written p (omega (arith, length-map bs (λ b. b .size), length-described binaryDefault (map black ns), length-map ns black, binary-room)))
+        let q : Put out 0 (sizesOf bs) n out′ =
+        subst (λ (l : List Block). Put out 0 (sizesOf (described binaryDefault l)) n out′) (black-blocks ns 64 binary-few)
+        (p .size-list) in
+        writes-done (same-count ∙ e) (put-count q)
+        (put-written q (omega (arith, length-map bs (λ b. b .size), length-described binaryDefault (map black ns), length-map ns black, room)))

@@ -1,16 +1,15 @@
 -- What each public call of this crate promises, coloured and binary alike: b is `coloured sizes colours` or `binary sizes`.
 use mathlib.Core.Path.{_≡_}
-use mathlib.Core.Bool.{Bool, true, not, _&&_}
+use mathlib.Core.Bool.{Bool, true, _&&_}
 use mathlib.Core.List.{List, [], _∷_, _++_, map}
 use Prim.Native.Nat.{ℕ}
-use lib.Dec.{ltb, leb}
+use lib.Dec.{leb}
 use lib.ListN.{length}
 use Rattle.rules.specs.Block.{Lent, sizesOf}
 use Rattle.rules.specs.Packing.{startsFrom, sumsFrom, positions}
 use Rattle.rules.specs.Ranges.{rangeColours, rangeStart, rangeEnd}
 use Rattle.rules.specs.Clue.{colouredDefault, binaryDefault, described}
-use Rattle.rules.specs.Refusal.{refusalNumber, Rule, _when_, verdict, lengthRules, blockRules, spaceRules, reply, listReply, left, Writes, WritesBlocks}
-use Rattle.rules.specs.declared.Refusal.the-variants.{BadRoom, TooManyBlocks}
+use Rattle.rules.specs.Refusal.{refusalNumber, Rule, verdict, lengthRules, countRules, blockRules, spaceRules, reply, listReply, left, Writes, WritesBlocks}
 use Rattle.rules.specs.declared.ListAnswer.{ListAnswer}
 use Rattle.block.specs.declared.NumberAnswer.{NumberAnswer}
 use Rattle.block.specs.declared.NumberAnswer.the-variants.{Number, Refused}
@@ -59,7 +58,7 @@ ColorRanges n b colours from to = Ranges (rangeRules n b (roomy b colours && (ro
 
 -- the blocks themselves may be anything
 abbrev pub descriptionRules : Lent → Bool → List Rule
-descriptionRules b fits = BadRoom when not (b .paired) ∷ BadRoom when not fits ∷ TooManyBlocks when ltb 64 (length (b .list)) ∷ []
+descriptionRules b fits = countRules (b .paired) (length (b .list)) fits
 
 -- the blocks that are not the default, in order
 abbrev pub ColouredDescription : Lent → List ℕ → List ℕ → ListAnswer → List ℕ → List ℕ → Type 0

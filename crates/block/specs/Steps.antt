@@ -1,31 +1,24 @@
 -- What the private functions say. A reader of the public calls needs none of it.
 use mathlib.Core.Path.{_≡_}
-use mathlib.Core.Bool.{Bool, cond, not}
+use mathlib.Core.Bool.{Bool, cond}
 use mathlib.Core.List.{List, [], _∷_, map}
 use Prim.Native.Nat.{ℕ, _+_, _≤_, _<_, _^_}
-use lib.Dec.{eqb, ltb}
+use lib.Dec.{eqb}
 use lib.ListN.{length, getD, drop}
 use lib.Seq.{sets}
 use Rattle.rules.specs.Block.{Block, blocks, sizesOf, coloursOf}
 use Rattle.rules.specs.Packing.{minimalSpace, next}
 use Rattle.rules.specs.Ranges.{newOf, firstOf, lastOf, rangeColours, rangeStart, rangeEnd}
-use Rattle.rules.specs.Clue.{colouredDefault, described}
-use Rattle.rules.specs.Refusal.{Rule, _when_}
-use Rattle.rules.specs.declared.Refusal.the-variants.{BadRoom, TooManyBlocks}
+use Rattle.rules.specs.Clue.{described}
 use Rattle.rules.specs.declared.Verdict.{Verdict}
 use Rattle.rules.specs.declared.Verdict.the-variants.{Fine, Bad}
 use Rattle.loops.specs.Put.{Put}
 use Rattle.block.specs.declared.Space.{Space}
 use Rattle.block.specs.declared.Space.the-variants.{Slack, Tight}
 
--- ---- rules, by the lengths that the code tests
+-- ---- rules
 
-abbrev pub countRules : ℕ → Bool → List Rule
-countRules n roomy = BadRoom when not roomy ∷ TooManyBlocks when ltb 64 n ∷ []
-
-abbrev pub pairRules : ℕ → ℕ → Bool → List Rule
-pairRules sizes colours roomy = BadRoom when not (eqb sizes colours) ∷ countRules sizes roomy
-
+-- a verdict with the number that is told where no rule is broken
 abbrev pub spaceOf : Verdict → ℕ → Space
 spaceOf Fine n = Slack n
 spaceOf (Bad w) n = Tight w
@@ -103,6 +96,7 @@ pub record Retainable (sizes colours out-sizes out-colours : List ℕ) : Type 0 
   pub sizes-room : length sizes ≤ length out-sizes
   pub colours-room : length sizes ≤ length out-colours
 
-pub record Retained (bs : List Block) (out-sizes out-colours : List ℕ) (r : ℕ) (out-sizes′ out-colours′ : List ℕ) : Type 0 where
-  pub size-list : Put out-sizes 0 (sizesOf (described colouredDefault bs)) r out-sizes′
-  pub colour-list : Put out-colours 0 (coloursOf (described colouredDefault bs)) r out-colours′
+-- d is the colour of the default
+pub record Retained (d : ℕ) (bs : List Block) (out-sizes out-colours : List ℕ) (r : ℕ) (out-sizes′ out-colours′ : List ℕ) : Type 0 where
+  pub size-list : Put out-sizes 0 (sizesOf (described d bs)) r out-sizes′
+  pub colour-list : Put out-colours 0 (coloursOf (described d bs)) r out-colours′

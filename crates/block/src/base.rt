@@ -15,7 +15,7 @@ ghost use Rattle.rules.specs.Ranges.{anyOf};
 ghost use Rattle.rules.specs.Clue.{isDefault};
 ghost use Rattle.rules.specs.Refusal.{verdict, spaceRules};
 ghost use Rattle.block.specs.Calls.{rangeRules};
-ghost use Rattle.block.specs.Steps.{Paired, Packable, Widened, edge, edgesFrom, gapNext, spaceOf, LastIndex, Rangeable, Ranged, RangesFit, RangesOf};
+ghost use Rattle.block.specs.Steps.{Paired, Packable, Widened, edge, edgesFrom, gapNext, spaceOf, LastIndex, Rangeable, Ranged, RangesFit, RangesOf, Retainable, Retained};
 
 fn wide(x: u32) -> u64
     ensures { λ r. ⌜ Widened x r ⌝ }
@@ -195,11 +195,37 @@ pub(crate) fn ranges(
 }
 
 // Whether a block equals the default, of size 0 and this colour.
-pub(crate) fn is_default(size: u32, colour: u32, default_colour: u32) -> bool
+fn is_default(size: u32, colour: u32, default_colour: u32) -> bool
     ensures { λ r. ⌜ r ≡ isDefault «default_colour» size colour ⌝ }
 {
     if size == 0 {
         return colour == default_colour;
     }
     false
+}
+
+// The blocks that are not the default, in order.
+pub(crate) fn retain(
+    sizes: &[u32],
+    colours: &[u32],
+    default_colour: u32,
+    out_sizes: &mut [u32],
+    out_colours: &mut [u32],
+) -> usize
+    requires { ⌜ Retainable (now sizes) (now colours) (now «out_sizes») (now «out_colours») ⌝ }
+    ensures { λ r. ⌜ Retained «default_colour» (blocks (now (sizes .entry)) (now (colours .entry))) (now («out_sizes» .entry)) (now («out_colours» .entry)) r (now («out_sizes» .exit)) (now («out_colours» .exit)) ⌝ }
+{
+    let mut count = 0;
+    let mut i = 0;
+    while i < sizes.len() {
+        let size = sizes[i];
+        let colour = colours[i];
+        i += 1;
+        if !is_default(size, colour, default_colour) {
+            out_sizes[count] = size;
+            out_colours[count] = colour;
+            count += 1;
+        }
+    }
+    count
 }

@@ -1,22 +1,20 @@
 // Coloured blocks: a list of sizes and a list of colours of equal length.
 use crate::NumberAnswer;
 use crate::Space;
-use crate::base::is_default;
 use crate::base::judge_space;
 use crate::base::pack;
 use crate::base::ranges;
+use crate::base::retain;
 use rules::ListAnswer;
-use rules::Refusal;
 use rules::Verdict;
 use rules::judge::both_room;
 use rules::judge::judge_blocks;
+use rules::judge::judge_count;
 ghost use mathlib.Core.Path.{_≡_};
 ghost use mathlib.Core.Bool.{_&&_};
 ghost use lib.Dec.{leb};
-ghost use Rattle.rules.specs.Block.{blocks, coloured};
-ghost use Rattle.rules.specs.Refusal.{verdict};
+ghost use Rattle.rules.specs.Block.{coloured};
 ghost use Rattle.block.specs.Calls.{PartialSums, BlockStarts, PositionsNumber, ColorRanges, ColouredDescription};
-ghost use Rattle.block.specs.Steps.{pairRules, Retainable, Retained};
 
 // The partial sums: the ends of the blocks in the leftmost packing.
 pub fn partial_sums(sizes: &[u32], colours: &[u32], sums: &mut [u64]) -> ListAnswer
@@ -97,42 +95,6 @@ pub fn color_ranges(
     }
 }
 
-// Rules 2 and 3, where the blocks themselves may be anything.
-fn judge_pair(sizes: usize, colours: usize, roomy: bool) -> Verdict
-    ensures { λ r. ⌜ r ≡ verdict (pairRules sizes colours roomy) ⌝ }
-{
-    if sizes != colours {
-        return Verdict::Bad(Refusal::BadRoom);
-    }
-    if !roomy {
-        return Verdict::Bad(Refusal::BadRoom);
-    }
-    if 64 < sizes {
-        return Verdict::Bad(Refusal::TooManyBlocks);
-    }
-    Verdict::Fine
-}
-
-// The blocks that are not the default, in order.
-fn retain(sizes: &[u32], colours: &[u32], out_sizes: &mut [u32], out_colours: &mut [u32]) -> usize
-    requires { ⌜ Retainable (now sizes) (now colours) (now «out_sizes») (now «out_colours») ⌝ }
-    ensures { λ r. ⌜ Retained (blocks (now (sizes .entry)) (now (colours .entry))) (now («out_sizes» .entry)) (now («out_colours» .entry)) r (now («out_sizes» .exit)) (now («out_colours» .exit)) ⌝ }
-{
-    let mut count = 0;
-    let mut i = 0;
-    while i < sizes.len() {
-        let size = sizes[i];
-        let colour = colours[i];
-        i += 1;
-        if !is_default(size, colour, 0) {
-            out_sizes[count] = size;
-            out_colours[count] = colour;
-            count += 1;
-        }
-    }
-    count
-}
-
 // Description::new: the blocks but for those of size 0 and colour 0, in order.
 pub fn description_new(
     sizes: &[u32],
@@ -142,15 +104,15 @@ pub fn description_new(
 ) -> ListAnswer
     ensures { λ r. ⌜ ColouredDescription (coloured (now (sizes .entry)) (now (colours .entry))) (now («out_sizes» .entry)) (now («out_colours» .entry)) r (now («out_sizes» .exit)) (now («out_colours» .exit)) ⌝ }
 {
-    let v = judge_pair(
+    let v = judge_count(
+        sizes.len() == colours.len(),
         sizes.len(),
-        colours.len(),
         both_room(sizes.len(), out_sizes.len(), out_colours.len()),
     );
     match v {
         Verdict::Bad(w) => ListAnswer::Refused(w),
         Verdict::Fine => {
-            let entries = retain(sizes, colours, out_sizes, out_colours);
+            let entries = retain(sizes, colours, 0, out_sizes, out_colours);
             ListAnswer::Done { entries }
         }
     }

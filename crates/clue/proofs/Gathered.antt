@@ -14,7 +14,6 @@ use Rattle.rules.proofs.Boards.{place-lt, length-line, getD-line, row-part}
 use Rattle.rules.specs.Block.{Block}
 use Rattle.rules.specs.Board.{row, column, lineOf}
 use Rattle.rules.specs.Card.{linesFrom, gathered}
-use Rattle.rules.specs.Run.{room}
 
 -- ---- lines one after the other
 

@@ -1,5 +1,6 @@
 -- What the calls for clues tell of placements and pictures, from their statements alone.
-use Rattle.clue.proofs.Told.{binary-known, coloured-known, codes-after-fine, codes-fine}
+use Rattle.clue.proofs.Told.{binary-known, coloured-known, codes-fine}
+use Rattle.rules.proofs.Verdicts.{append-fine}
 use Prim.Native.Nat.{_≤_, ℕ, zero, suc, _+_, _<_, _*_}
 use borrow.Author.Tests.{ne-eqb, le-leb, le-ltb}
 use lib.Dec.{eqb, leb}
@@ -42,7 +43,7 @@ length-ok n a b = rw (ne-eqb n 0 (λ e. omega arith), le-ltb 64 n b)
 
 -- no rule of a line is broken
 line-ok : (n : ℕ) (t u : Bool) → 0 < n → n ≤ 64 → t ≡ true → u ≡ false → verdict (lengthRules n ++ codeRules t u) ≡ Fine
-line-ok n t u a b x y = codes-after-fine (lengthRules n) t u (length-ok n a b) ∙ rw (x, y)
+line-ok n t u a b x y = append-fine (lengthRules n) (codeRules t u) (length-ok n a b) ∙ rw (x, y)
 
 pub placement-again : {bs : List Block} {l sizes colours sizes′ colours′ : List ℕ} {r : ListAnswer} → Legal bs → Placement bs (length l) l
     → 0 < length l → length l ≤ 64 → length l ≤ length sizes → length l ≤ length colours
@@ -292,7 +293,8 @@ module _ (e w h m n : ℕ) (b : List ℕ) {rc rs cc cs rc′ rs′ cc′ cs′ :
 
   unmixed : mixedCode e b ≡ false
   unmixed =
-      codes-fine (lengthRules w ++ lengthRules h) (gridFits w h (length b) (length rc) (length rs) (length cc) (length cs)) (mixedCode e b) (binary-fine .0) .2
+      codes-fine (lengthRules w ++ lengthRules h) (gridFits w h (length b) (length rc) (length rs) (length cc) (length cs)) (mixedCode e b)
+      (binary-fine .0) .2
 
   binary-sized : length b ≡ h * w
   binary-sized = omega (arith, binary-known e w h b rc rs cc cs (binary-fine .0) .0 .size)

@@ -2,7 +2,7 @@
 use Rattle.clue.specs.Calls.{binaryRules, colouredRules, codeRules, gridFits, gridRules, GridLists, GridColours}
 use Rattle.rules.specs.Clue.{badCode, mixedCode, clue}
 use Prim.Native.Nat.{_≤_, ℕ, zero, suc, _<_, _*_}
-use borrow.Author.Tests.{not-false, leb-true}
+use borrow.Author.Tests.{not-false}
 use lib.Dec.{leb}
 use lib.ListN.{length, length-append, length-map}
 use mathlib.Core.Bool.{Bool, true, false, not, _&&_}
@@ -19,8 +19,8 @@ use Rattle.loops.proofs.Going.{written-sets, put-count, put-written}
 use Rattle.loops.specs.Put.{Put}
 use Rattle.rules.proofs.Boards.{length-line}
 use Rattle.rules.proofs.Replies.{writes-done, blocks-done}
-use Rattle.rules.proofs.Tests.{both-true}
-use Rattle.rules.proofs.Verdicts.{fine-cons, _then_, verdict-append, then-fine, length-fine}
+use Rattle.rules.proofs.Tests.{both-true, rooms}
+use Rattle.rules.proofs.Verdicts.{fine-cons, append-fine, append-parts, length-fine}
 use Rattle.rules.specs.Block.{Block, sizesOf, coloursOf}
 use Rattle.rules.specs.Board.{row, column, len, lineOf}
 use Rattle.rules.specs.Card.{linesFrom, rowClues, columnClues, gathered, countOf}
@@ -34,21 +34,11 @@ use Rattle.rules.specs.declared.ListAnswer.the-variants.{Done}
 
 -- ---- the rules, one group after the other
 
-module _ (xs : List Rule) (fits bad : Bool) where
-  pub codes-split : verdict (xs ++ codeRules fits bad) ≡ verdict xs then verdict (codeRules fits bad)
-  codes-split = verdict-append xs (codeRules fits bad)
-
-  pub codes-after-bad : {w : Refusal} → verdict xs ≡ Bad w → verdict (xs ++ codeRules fits bad) ≡ Bad w
-  codes-after-bad e = codes-split ∙ rw e
-
-  pub codes-after-fine : verdict xs ≡ Fine → verdict (xs ++ codeRules fits bad) ≡ verdict (codeRules fits bad)
-  codes-after-fine e = codes-split ∙ rw e
-
-  pub codes-fine : verdict (xs ++ codeRules fits bad) ≡ Fine → (verdict xs ≡ Fine) × (fits ≡ true) × (bad ≡ false)
-  codes-fine e =
-      let p = then-fine (verdict xs) (verdict (codeRules fits bad)) (sym codes-split ∙ e) in
-      let q = fine-cons (BadRoom when not fits) (BadCode when bad ∷ []) (p .1) in
-      (p .0, not-false fits (q .0), fine-cons (BadCode when bad) [] (q .1) .0)
+pub codes-fine : (xs : List Rule) (fits bad : Bool) → verdict (xs ++ codeRules fits bad) ≡ Fine → (verdict xs ≡ Fine) × (fits ≡ true) × (bad ≡ false)
+codes-fine xs fits bad e =
+    let p = append-parts xs (codeRules fits bad) e in
+    let q = fine-cons (BadRoom when not fits) (BadCode when bad ∷ []) (p .1) in
+    (p .0, not-false fits (q .0), fine-cons (BadCode when bad) [] (q .1) .0)
 
 pub line-fine : (n : ℕ) (t u : Bool) → verdict (lengthRules n ++ codeRules t u) ≡ Fine → (n ≤ 64) × (t ≡ true)
 line-fine n t u e = let p = codes-fine (lengthRules n) t u e in (length-fine n (p .0) .1, p .1)
@@ -56,12 +46,6 @@ line-fine n t u e = let p = codes-fine (lengthRules n) t u e in (length-fine n (
 -- the same rules by the results of the code's own tests
 pub line-same : (n : ℕ) {x y t u : Bool} → t ≡ x → u ≡ y → verdict (lengthRules n ++ codeRules x y) ≡ verdict (lengthRules n ++ codeRules t u)
 line-same n te ue = ap₂ (λ a b. verdict (lengthRules n ++ codeRules a b)) (sym te) (sym ue)
-
--- two lists have room
-pub rooms : (n a b : ℕ) {t : Bool} → t ≡ (leb n a && leb n b) → t ≡ true → (n ≤ a) × (n ≤ b)
-rooms n a b te q =
-    let x = both-true (leb n a) (leb n b) (sym te ∙ q) in
-    (leb-true n a (x .0), leb-true n b (x .1))
 
 -- ---- a line
 
@@ -135,13 +119,13 @@ sideRules w h = lengthRules w ++ lengthRules h
 
 pub sides : (w h : ℕ) → verdict (sideRules w h) ≡ Fine → (0 < w) × (w ≤ 64) × (0 < h) × (h ≤ 64)
 sides w h q =
-    let a = then-fine (verdict (lengthRules w)) (verdict (lengthRules h)) (sym (verdict-append (lengthRules w) (lengthRules h)) ∙ q) in
+    let a = append-parts (lengthRules w) (lengthRules h) q in
     let x = length-fine w (a .0) in
     let y = length-fine h (a .1) in
     (x .0, x .1, y .0, y .1)
 
 pub grid-same : (w h : ℕ) {f b t m : Bool} → verdict (sideRules w h) ≡ Fine → t ≡ f → m ≡ b → verdict (gridRules w h f b) ≡ verdict (codeRules t m)
-grid-same w h {f} {b} q te me = codes-after-fine (sideRules w h) f b q ∙ ap₂ (λ x y. verdict (codeRules x y)) (sym te) (sym me)
+grid-same w h {f} {b} q te me = append-fine (sideRules w h) (codeRules f b) q ∙ ap₂ (λ x y. verdict (codeRules x y)) (sym te) (sym me)
 
 grid-known : (w h : ℕ) (b rc rs cc cs : List ℕ) → verdict (sideRules w h) ≡ Fine
     → gridFits w h (length b) (length rc) (length rs) (length cc) (length cs) ≡ true
@@ -156,8 +140,8 @@ grid-known w h b rc rs cc cs q e =
 colours-room : (w h : ℕ) (f : Bool) (a b : ℕ) → (f && (leb (w * h) a && leb (w * h) b)) ≡ true → (f ≡ true) × (w * h ≤ a) × (w * h ≤ b)
 colours-room w h f a b e =
     let x = both-true f (leb (w * h) a && leb (w * h) b) e in
-    let y = both-true (leb (w * h) a) (leb (w * h) b) (x .1) in
-    (x .0, leb-true (w * h) a (y .0), leb-true (w * h) b (y .1))
+    let y = rooms (w * h) a b (x .1) in
+    (x .0, y .0, y .1)
 
 -- what is known where no rule is broken
 module _ (e w h : ℕ) (b rc rs cc cs : List ℕ) where

@@ -4,7 +4,7 @@ use mathlib.Core.Logic.{_↔_}
 use mathlib.Core.List.{List, map}
 use Prim.Native.Nat.{ℕ, zero, suc, _^_, _≤_, _<_}
 use native.Mathlib.Omega.{arith}
-use lib.ListN.{length, getD, set, List·getD-map}
+use lib.ListN.{length, getD, List·getD-map}
 use Rattle.rules.specs.Colour.{Has, Subset}
 use Rattle.rules.specs.Answer.{Fitting, Exact, Proper}
 use Rattle.rules.specs.Binary.{setOf, cellOf}

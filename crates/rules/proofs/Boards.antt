@@ -12,7 +12,7 @@ use lib.Seq.{getD-set-same, getD-set-other, ext-getD, getD-take, getD-drop}
 use Rattle.rules.specs.Colour.{Has}
 use Rattle.rules.specs.Answer.{Within}
 use Rattle.rules.specs.declared.LinePosition.{LinePosition}
-use Rattle.rules.specs.Board.{row, column, len, On, place, tabulate, lineOf, put, store}
+use Rattle.rules.specs.Board.{row, len, On, place, tabulate, lineOf, put, store}
 use Rattle.rules.proofs.Colours.{not-has-zero}
 use Rattle.rules.specs.declared.LinePosition.the-variants.{Row, Column}
 

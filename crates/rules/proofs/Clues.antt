@@ -8,12 +8,13 @@ use mathlib.Core.List.{List, [], _∷_, _++_, append-nil, append-assoc, nil≢co
 use Prim.Native.Nat.{ℕ, zero, suc, _+_, _≤_, _<_}
 use native.Mathlib.Numerals.{add-one}
 use native.Mathlib.Omega.{arith}
+use borrow.Author.Tests.{eq-eqb, ne-eqb}
 use lib.Dec.{eqb}
 use lib.ListN.{length, replicate, length-append, length-replicate}
 use Rattle.rules.specs.Block.{Block, _of_, Legal, legal-none, legal-block}
 use Rattle.rules.specs.Placement.{one, gap, pieces, Laid, end, blank, piece, Placement}
 use Rattle.rules.specs.Clue.{Apart, RunsOf, no-code, a-blank, a-run, runs, clue}
-use Rattle.rules.proofs.Tests.{Compared, eqb-cases, eqb-yes, eqb-no}
+use Rattle.rules.proofs.Tests.{Compared, eqb-cases}
 
 -- ---- the computed clue is the line's runs
 
@@ -53,7 +54,7 @@ clue-runs e l = told e l .shut
 runs-grow : (e k n c : ℕ) (l : List ℕ) → c ≢ e → runs e (some (n of c)) (replicate k c ++ l) ≡ runs e (some ((k + n) of c)) l
 runs-grow e zero n c l d = ap (λ (m : ℕ). runs e (some (m of c)) l) (omega arith)
 runs-grow e (suc k) n c l d =
-    rw (eqb-no c e d, eqb-yes c c refl) (runs-grow e k (suc n) c l d ∙ ap (λ (m : ℕ). runs e (some (m of c)) l) (omega arith))
+    rw (ne-eqb c e d, eq-eqb c c refl) (runs-grow e k (suc n) c l d ∙ ap (λ (m : ℕ). runs e (some (m of c)) l) (omega arith))
 
 -- the run ends where another code begins
 runs-ends : (e n c : ℕ) (l : List ℕ) → Apart c l → runs e (some (n of c)) l ≡ n of c ∷ runs e none l
@@ -62,16 +63,16 @@ runs-ends e n c (d ∷ l) a = go (eqb-cases d e)
   where
     go : Compared d e → runs e (some (n of c)) (d ∷ l) ≡ n of c ∷ runs e none (d ∷ l)
     go (inl p) = rw (p .1)
-    go (inr p) = rw (p .1, eqb-no d c a)
+    go (inr p) = rw (p .1, ne-eqb d c a)
 
 pub clue-run : (e n c : ℕ) (l : List ℕ) → 0 < n → c ≢ e → Apart c l → clue e (replicate n c ++ l) ≡ n of c ∷ clue e l
 clue-run e zero c l h d a = absurd (omega arith)
 clue-run e (suc n) c l h d a =
-    rw (eqb-no c e d) (runs-grow e n 1 c l d ∙ ap (λ (m : ℕ). runs e (some (m of c)) l) (add-one n) ∙ runs-ends e (suc n) c l a)
+    rw (ne-eqb c e d) (runs-grow e n 1 c l d ∙ ap (λ (m : ℕ). runs e (some (m of c)) l) (add-one n) ∙ runs-ends e (suc n) c l a)
 
 pub runs-clue : {e : ℕ} {l : List ℕ} {bs : List Block} → RunsOf e l bs → clue e l ≡ bs
 runs-clue no-code = refl
-runs-clue {e} (a-blank {l = l} r) = rw (eqb-yes e e refl) (runs-clue r)
+runs-clue {e} (a-blank {l = l} r) = rw (eq-eqb e e refl) (runs-clue r)
 runs-clue {e} (a-run {l = l} n c h d a r) = clue-run e n c l h d a ∙ ap (λ t. n of c ∷ t) (runs-clue r)
 
 -- a line has at most a run a cell
@@ -155,7 +156,7 @@ own-run n c a (a-blank {l = m} {bs = bs} r) w = go (gap-cases c bs)
     go : (gap c bs ≡ []) ⊎ (gap c bs ≡ 1 ∷ []) → Laid ((replicate n c ++ gap c bs) ∷ pieces bs) (replicate n c ++ (1 ∷ m))
     go (inl g) = no-gap n c bs g (w .whole)
     go (inr g) = with-gap n c bs m g refl (w .tail m refl)
-own-run n c a (a-run {l = m} {bs = bs} k d h f b r) w = no-gap n c (k of d ∷ bs) (rw (eqb-no c d (other k h a))) (w .whole)
+own-run n c a (a-run {l = m} {bs = bs} k d h f b r) w = no-gap n c (k of d ∷ bs) (rw (ne-eqb c d (other k h a))) (w .whole)
   where
     other : (k : ℕ) → 0 < k → Apart c (replicate k d ++ m) → c ≢ d
     other zero p q = absurd (omega arith)

@@ -8,7 +8,7 @@ use Prim.Native.Nat.{ℕ, zero, suc, _+_, _-_, _≤_, _<_}
 use native.Mathlib.Omega.{arith}
 use borrow.Author.Tests.{eq-eqb}
 use lib.Dec.{eqb}
-use lib.ListN.{length, getD, replicate, length-append, length-replicate, List·getD-append}
+use lib.ListN.{length, getD, replicate, length-append, length-replicate, length-map, List·getD-append}
 use lib.Seq.{getD-append-add}
 use Rattle.rules.specs.Block.{Block, coloursOf}
 use Rattle.rules.specs.Placement.{one, gap, pieces, Laid, end, blank, piece, Placement}
@@ -210,14 +210,10 @@ in-range bs {n} {l} d p h e =
     let o = owner bs (d .laid) refl 0 p (omega (arith, d .long)) e in
     let cs = coloursOf bs in
     let c = getD l p 0 in
-    let m = length-colours bs in
+    let m = length-map bs (λ b. b .colour) in
     let f = first-least c cs (o .k) (omega (arith, o .in-blocks)) (o .colour-is) in
     let g = last-most c 0 0 cs (o .k) (omega (arith, o .in-blocks)) (o .colour-is) in
     let w = last-inside c cs (omega (arith, o .in-blocks)) in (
       omega (arith, starts-mono 0 bs (firstOf c cs) (o .k) f (o .in-blocks), o .after),
       omega (arith, sums-mono 0 bs (o .k) (lastOf c 0 0 cs) (omega (arith, g)) (omega (arith, w, m)), o .before, d .long),
     )
-  where
-    length-colours : (bs : List Block) → length (coloursOf bs) ≡ length bs
-    length-colours [] = refl
-    length-colours (b ∷ bs) = ap suc (length-colours bs)

@@ -1,5 +1,6 @@
 -- A picture's codes read as colours: the clue stays, so that every line whose codes are allowed is a placement of its own clue.
 use Prim.Native.Nat.{ℕ, zero, suc, _<_, _*_}
+use borrow.Author.Tests.{eq-eqb, ne-eqb}
 use lib.Dec.{eqb}
 use lib.ListN.{length, getD, replicate, length-map}
 use mathlib.Core.Bool.{Bool, true, false, cond}
@@ -12,7 +13,7 @@ use Rattle.rules.proofs.Blocks.{legal-colour}
 use Rattle.rules.proofs.Boards.{place-lt}
 use Rattle.rules.proofs.Clues.{clue-runs, runs-clue, own-placement}
 use Rattle.rules.proofs.Codes.{later, different-mixed}
-use Rattle.rules.proofs.Tests.{Compared, eqb-cases, eqb-yes, eqb-no, true-not-false, cond-false}
+use Rattle.rules.proofs.Tests.{Compared, eqb-cases, true-not-false, cond-false}
 use Rattle.rules.specs.Block.{Block, _of_, black, sizesOf, Legal, illegalColour, legal-none, legal-block}
 use Rattle.rules.specs.Board.{len, On, place, tabulate, lineOf}
 use Rattle.rules.specs.Clue.{Apart, RunsOf, clue, badCode, Different, mixedCode, readCode, readBinary, no-code, a-blank, a-run}
@@ -48,15 +49,15 @@ map-line f w h b l size o =
 -- each code that is not blank is a legal colour
 module _ (e : ℕ) where
   read-blank : readCode e e ≡ 1
-  read-blank = rw (eqb-yes e e refl)
+  read-blank = rw (eq-eqb e e refl)
 
   read-other : {c : ℕ} → c ≢ e → readCode e c ≡ c
-  read-other {c} d = rw (eqb-no c e d)
+  read-other {c} d = rw (ne-eqb c e d)
 
   allowed : (c : ℕ) (l : List ℕ) → badCode e (c ∷ l) ≡ false → c ≢ e → Colour c × (c ≢ 1)
   allowed c l g d =
       legal-colour c
-      (sym (ap (λ t. cond t false (illegalColour c)) (eqb-no c e d)) ∙ cond-false (cond (eqb c e) false (illegalColour c)) (badCode e l) g .0)
+      (sym (ap (λ t. cond t false (illegalColour c)) (ne-eqb c e d)) ∙ cond-false (cond (eqb c e) false (illegalColour c)) (badCode e l) g .0)
 
   rest-good : (n c : ℕ) (l : List ℕ) → badCode e (replicate n c ++ l) ≡ false → badCode e l ≡ false
   rest-good zero c l g = g
@@ -138,11 +139,11 @@ module _ (e : ℕ) where
   black-runs : {l : List ℕ} {bs : List Block} → RunsOf e l bs → (Different e l → ⊥) → RunsOf 1 (map (readBinary e) l) (map black (sizesOf bs))
   black-runs no-code f = no-code
   black-runs (a-blank {l = l} {bs = bs} r) f =
-      subst (λ (x : ℕ). RunsOf 1 (x ∷ map (readBinary e) l) (map black (sizesOf bs))) (sym (ap (λ t. cond t 1 2) (eqb-yes e e refl)))
+      subst (λ (x : ℕ). RunsOf 1 (x ∷ map (readBinary e) l) (map black (sizesOf bs))) (sym (ap (λ t. cond t 1 2) (eq-eqb e e refl)))
       (a-blank (black-runs r (λ d. f (later d))))
   black-runs (a-run {l = l} {bs = bs} n c h d a r) f =
       subst (λ (m : List ℕ). RunsOf 1 m (black n ∷ map black (sizesOf bs)))
-      (sym (map-replicate (readBinary e) n c l ∙ ap (λ t. replicate n (cond t 1 2) ++ map (readBinary e) l) (eqb-no c e d)))
+      (sym (map-replicate (readBinary e) n c l ∙ ap (λ t. replicate n (cond t 1 2) ++ map (readBinary e) l) (ne-eqb c e d)))
       (a-run n 2 h (λ u. omega arith) (black-apart n c l h d a f) (black-runs r (λ x. f (later-many n c x))))
 
   none-different : (l : List ℕ) → mixedCode e l ≡ false → Different e l → ⊥

@@ -5,7 +5,7 @@ use Prim.Native.Nat.{ℕ}
 use native.Mathlib.Omega.{arith}
 use lib.ListN.{length, getD}
 use Rattle.rules.specs.Block.{Block, sizesOf, coloursOf}
-use Rattle.rules.specs.Refusal.{refusalNumber, Rule, verdict, reply, listReply, written, Writes, WritesBlocks}
+use Rattle.rules.specs.Refusal.{refusalNumber, Rule, verdict, listReply, written, Writes, WritesBlocks}
 use Rattle.rules.specs.declared.Refusal.{Refusal}
 use Rattle.rules.specs.declared.Refusal.the-variants.{BadLength, BadRoom, TooManyBlocks, BadBlock, BadCell, OutsideGrid, ShortReport, BadCode, NoSpace}
 use Rattle.rules.specs.declared.Verdict.the-variants.{Fine, Bad}

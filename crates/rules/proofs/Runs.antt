@@ -7,7 +7,7 @@ use mathlib.Core.List.{List, [], _∷_, _++_, map, List·Memᴰ, List·Memᴰ·h
 use Prim.Native.Nat.{ℕ, zero, suc, _+_, _*_, _≤_, _<_}
 use native.Mathlib.Nat.{zero-add}
 use native.Mathlib.Omega.{arith}
-use lib.ListN.{length, getD, set, length-append, length-map}
+use lib.ListN.{length, getD, length-append, length-map}
 use lib.Seq.{ext-getD}
 use Rattle.rules.specs.Answer.{Exact, Answers, Proper}
 use Rattle.rules.specs.declared.LinePosition.{LinePosition}

@@ -4,13 +4,13 @@ use mathlib.Core.Logic.{_⊎_, inl, inr, ⊎-elim, _≢_}
 use mathlib.Core.List.{List}
 use Prim.Native.Nat.{ℕ, _+_, _*_, _<_}
 use native.Mathlib.Omega.{arith}
-use lib.ListN.{length, getD, set}
+use lib.ListN.{length, getD}
 use Rattle.rules.specs.Colour.{Has, Subset}
 use Rattle.rules.specs.Answer.{Fitting, Shown, Exact, Refused, Proper, Within, join}
 use Rattle.rules.specs.declared.LinePosition.{LinePosition}
 use Rattle.rules.specs.Board.{row, column, len, On, place, lineOf, store, Settled, Stable, Picture, Kept, Widest, Unsettled}
 use Rattle.rules.proofs.Colours.{subset-refl, not-has-zero, some-colour, has-or, has-left, has-right, has-pow}
-use Rattle.rules.proofs.Answers.{within-refl, within-trans, within-antisym, getD-join, length-join, wider, shown-wider, shown-has, narrows, keeps, again, within-agrees, full}
+use Rattle.rules.proofs.Answers.{within-refl, within-trans, within-antisym, getD-join, length-join, wider, shown-wider, shown-has, narrows, again, within-agrees, full}
 use Rattle.rules.specs.declared.LinePosition.the-variants.{Row, Column}
 use Rattle.rules.proofs.Boards.{length-line, getD-line, line-end, line-within, length-store, store-at, store-other, line-store, find}
 

@@ -10,9 +10,8 @@ use lib.Dec.{leb, eqb}
 use lib.ListN.{length, getD, length-append, length-reverse, length-map}
 use Rattle.rules.specs.declared.LinePosition.{LinePosition}
 use Rattle.rules.specs.Board.{row, column, On, cross}
-use Rattle.rules.specs.Run.{sameLine, remove, push, changed, pushAll, run, upFrom, distance, insert, sorted, fullStack, allLines}
+use Rattle.rules.specs.Run.{sameLine, remove, push, changed, pushAll, upFrom, distance, insert, sorted, fullStack, allLines}
 use Rattle.rules.proofs.Lists.{mem-map, map-mem, mem-reverse, reverse-mem}
-use Rattle.rules.proofs.Answers.{full}
 use Rattle.rules.specs.declared.LinePosition.the-variants.{Row, Column}
 use Rattle.rules.proofs.Tests.{Compared, eqb-cases}
 

@@ -1,10 +1,11 @@
 -- What the outcome of a test tells.
-use mathlib.Core.Path.{_≡_, refl, sym, subst}
+use mathlib.Core.Path.{_≡_, refl, sym}
 use mathlib.Core.Bool.{Bool, true, false, cond, _&&_}
-use mathlib.Core.Logic.{_⊎_, inl, inr, ⊎-elim, _≢_}
-use Prim.Native.Nat.{ℕ}
+use mathlib.Core.Logic.{_⊎_, inl, inr, _≢_}
+use Prim.Native.Nat.{ℕ, _≤_}
 use native.Mathlib.Omega.{arith}
-use lib.Dec.{T, eqb, eqb→eq, eqb-refl}
+use borrow.Author.Tests.{eqb-true, eqb-false, leb-true}
+use lib.Dec.{eqb, leb}
 
 -- two numbers are equal and their test says so, or they are not and it says that
 abbrev pub Compared : ℕ → ℕ → Type 0
@@ -14,14 +15,8 @@ pub eqb-cases : (a b : ℕ) → Compared a b
 eqb-cases a b = go (eqb a b) refl
   where
     go : (t : Bool) → eqb a b ≡ t → Compared a b
-    go true e = inl (eqb→eq a b (subst T (sym e) tt), e)
-    go false e = inr (λ q. subst T e (subst (λ (x : ℕ). T (eqb a x)) q (eqb-refl a)), e)
-
-pub eqb-yes : (a b : ℕ) → a ≡ b → eqb a b ≡ true
-eqb-yes a b e = ⊎-elim (λ p. p .1) (λ p. absurd (p .0 e)) (eqb-cases a b)
-
-pub eqb-no : (a b : ℕ) → a ≢ b → eqb a b ≡ false
-eqb-no a b d = ⊎-elim (λ p. absurd (d (p .0))) (λ p. p .1) (eqb-cases a b)
+    go true e = inl (eqb-true a b e, e)
+    go false e = inr (eqb-false a b e, e)
 
 pub true-not-false : true ≡ false → ⊥
 true-not-false e = let z : _≡_ {A = ℕ} 0 1 = cc in omega arith
@@ -30,6 +25,10 @@ pub both-true : (a b : Bool) → (a && b) ≡ true → (a ≡ true) × (b ≡ tr
 both-true true true e = (refl, refl)
 both-true true false e = absurd (true-not-false (sym e))
 both-true false b e = absurd (true-not-false (sym e))
+
+-- two lists have room
+pub rooms : (n a b : ℕ) → (leb n a && leb n b) ≡ true → (n ≤ a) × (n ≤ b)
+rooms n a b e = let p = both-true (leb n a) (leb n b) e in (leb-true n a (p .0), leb-true n b (p .1))
 
 -- neither of two tests
 pub cond-false : (t u : Bool) → cond t true u ≡ false → (t ≡ false) × (u ≡ false)

@@ -9,7 +9,7 @@ use borrow.Author.Tests.{eqb-false, ltb-false, not-false, leb-true, eqb-true}
 use lib.Dec.{eqb, ltb, leb}
 use lib.ListN.{length}
 use Rattle.rules.specs.Block.{Lent, blocks, coloured, illegal}
-use Rattle.rules.specs.Refusal.{refusalNumber, Rule, _when_, verdict, ascending, Lowest, lengthRules, blockRules}
+use Rattle.rules.specs.Refusal.{refusalNumber, Rule, _when_, verdict, ascending, Lowest, lengthRules, countRules, blockRules}
 use Rattle.rules.specs.declared.Refusal.{Refusal}
 use Rattle.rules.specs.declared.Refusal.the-variants.{BadLength, BadRoom, TooManyBlocks, BadBlock}
 use Rattle.rules.specs.declared.Verdict.{Verdict}
@@ -99,6 +99,17 @@ pub then-fine : (u v : Verdict) → u then v ≡ Fine → (u ≡ Fine) × (v ≡
 then-fine Fine v e = (refl, e)
 then-fine (Bad w) v e = absurd (bad-not-fine e)
 
+-- a list of rules after another: the first that is broken decides
+module _ (xs ys : List Rule) where
+  pub append-bad : {w : Refusal} → verdict xs ≡ Bad w → verdict (xs ++ ys) ≡ Bad w
+  append-bad e = verdict-append xs ys ∙ rw e
+
+  pub append-fine : verdict xs ≡ Fine → verdict (xs ++ ys) ≡ verdict ys
+  append-fine e = verdict-append xs ys ∙ rw e
+
+  pub append-parts : verdict (xs ++ ys) ≡ Fine → (verdict xs ≡ Fine) × (verdict ys ≡ Fine)
+  append-parts e = then-fine (verdict xs) (verdict ys) (sym (verdict-append xs ys) ∙ e)
+
 -- ---- what no refusal tells
 
 pub length-fine : (n : ℕ) → verdict (lengthRules n) ≡ Fine → (0 < n) × (n ≤ 64)
@@ -107,40 +118,59 @@ length-fine n e =
     let z = eqb-false n 0 (a .0) in
     (omega (arith, z), ltb-false 64 n (fine-cons (BadLength when ltb 64 n) [] (a .1) .0))
 
+-- what the rules on lists of blocks leave
+pub record Counted (paired : Bool) (count : ℕ) (roomy : Bool) : Type 0 where
+  pub one-length : paired ≡ true
+  pub room : roomy ≡ true
+  pub few : count ≤ 64
+
+pub count-fine : (paired : Bool) (count : ℕ) (roomy : Bool) → verdict (countRules paired count roomy) ≡ Fine → Counted paired count roomy
+count-fine paired count roomy e =
+    let r3 = TooManyBlocks when ltb 64 count in
+    let p = fine-cons (BadRoom when not paired) (BadRoom when not roomy ∷ r3 ∷ []) e in
+    let q = fine-cons (BadRoom when not roomy) (r3 ∷ []) (p .1) in
+    record { one-length = not-false paired (p .0); room = not-false roomy (q .0); few = ltb-false 64 count (fine-cons r3 [] (q .1) .0) }
+
 -- what the rules on blocks leave
 pub record Blocked (b : Lent) (roomy : Bool) : Type 0 where
-  pub paired : b .paired ≡ true
-  pub room : roomy ≡ true
-  pub few : length (b .list) ≤ 64
+  pub counted : Counted (b .paired) (length (b .list)) roomy
   pub legal : illegal (b .list) ≡ false
 
 pub blocks-fine : (b : Lent) (roomy : Bool) → verdict (blockRules b roomy) ≡ Fine → Blocked b roomy
 blocks-fine b roomy e =
+    let rs = countRules (b .paired) (length (b .list)) roomy in
     let r4 = BadBlock when illegal (b .list) in
-    let r3 = TooManyBlocks when ltb 64 (length (b .list)) in
-    let r2 = BadRoom when not roomy in
-    let p = fine-cons (BadRoom when not (b .paired)) (r2 ∷ r3 ∷ r4 ∷ []) e in
-    let q = fine-cons r2 (r3 ∷ r4 ∷ []) (p .1) in
-    let s = fine-cons r3 (r4 ∷ []) (q .1) in
-    record {
-      paired = not-false (b .paired) (p .0);
-      room = not-false roomy (q .0);
-      few = ltb-false 64 (length (b .list)) (s .0);
-      legal = fine-cons r4 [] (s .1) .0;
-    }
+    let p = append-parts rs (r4 ∷ []) e in
+    record { counted = count-fine (b .paired) (length (b .list)) roomy (p .0); legal = fine-cons r4 [] (p .1) .0 }
 
 pub pair-fine : (ns cs : List ℕ) (roomy : Bool) → verdict (blockRules (coloured ns cs) roomy) ≡ Fine → (length ns ≡ length cs) × (length ns ≤ 64)
 pair-fine ns cs roomy e =
     let k = blocks-fine (coloured ns cs) roomy e in
-    let q = eqb-true (length ns) (length cs) (k .paired) in
-    (q, omega (arith, k .few, length-blocks ns cs q))
+    let q = eqb-true (length ns) (length cs) (k .counted .one-length) in
+    (q, omega (arith, k .counted .few, length-blocks ns cs q))
 
--- room for each size is room for each block: where the two numbers differ, the lists have unequal lengths
-pub room-same : (ns cs : List ℕ) (f : ℕ → Bool)
-    → verdict (blockRules (coloured ns cs) (f (length (blocks ns cs)))) ≡ verdict (blockRules (coloured ns cs) (f (length ns)))
-room-same ns cs f = go (eqb-cases (length ns) (length cs))
+-- a size is as good as a block to count: where their numbers differ, the lists have unequal lengths
+pub count-same : (ns cs : List ℕ) (f : ℕ → Bool)
+    → verdict (countRules (eqb (length ns) (length cs)) (length (blocks ns cs)) (f (length (blocks ns cs))))
+    ≡ verdict (countRules (eqb (length ns) (length cs)) (length ns) (f (length ns)))
+count-same ns cs f = go (eqb-cases (length ns) (length cs))
   where
     go : Compared (length ns) (length cs)
-        → verdict (blockRules (coloured ns cs) (f (length (blocks ns cs)))) ≡ verdict (blockRules (coloured ns cs) (f (length ns)))
-    go (inl p) = ap (λ n. verdict (blockRules (coloured ns cs) (f n))) (length-blocks ns cs (p .0))
+        → verdict (countRules (eqb (length ns) (length cs)) (length (blocks ns cs)) (f (length (blocks ns cs))))
+        ≡ verdict (countRules (eqb (length ns) (length cs)) (length ns) (f (length ns)))
+    go (inl p) = ap (λ n. verdict (countRules (eqb (length ns) (length cs)) n (f n))) (length-blocks ns cs (p .0))
     go (inr p) = rw (p .1)
+
+module _ (ns cs : List ℕ) where
+  -- the rules on blocks, by the number of sizes
+  pub blocks-split : (f : ℕ → Bool) → verdict (blockRules (coloured ns cs) (f (length (blocks ns cs))))
+      ≡ verdict (countRules (eqb (length ns) (length cs)) (length ns) (f (length ns))) then verdict (BadBlock when illegal (blocks ns cs) ∷ [])
+  blocks-split f =
+      verdict-append (countRules (eqb (length ns) (length cs)) (length (blocks ns cs)) (f (length (blocks ns cs))))
+      (BadBlock when illegal (blocks ns cs) ∷ [])
+      ∙ ap (λ v. v then verdict (BadBlock when illegal (blocks ns cs) ∷ [])) (count-same ns cs f)
+
+  -- room for each size is room for each block
+  pub room-same : (f : ℕ → Bool)
+      → verdict (blockRules (coloured ns cs) (f (length (blocks ns cs)))) ≡ verdict (blockRules (coloured ns cs) (f (length ns)))
+  room-same f = blocks-split f ∙ sym (blocks-split (λ n. f (length ns)))

@@ -59,14 +59,13 @@ pub record Lowest (rs : List Rule) (w : Refusal) : Type 0 where
 abbrev pub lengthRules : ℕ → List Rule
 lengthRules n = BadLength when eqb n 0 ∷ BadLength when ltb 64 n ∷ []
 
--- 2: the lists of blocks have unequal lengths, or a list to write has too little room; 3: more than 64 blocks; 4: a block is not legal
+-- 2: the lists of blocks have unequal lengths, or a list to write has too little room; 3: more than 64 blocks
+abbrev pub countRules : Bool → ℕ → Bool → List Rule
+countRules paired count roomy = BadRoom when not paired ∷ BadRoom when not roomy ∷ TooManyBlocks when ltb 64 count ∷ []
+
+-- the same of a line's blocks; 4: a block is not legal
 abbrev pub blockRules : Lent → Bool → List Rule
-blockRules b roomy =
-    BadRoom when not (b .paired)
-    ∷ BadRoom when not roomy
-    ∷ TooManyBlocks when ltb 64 (length (b .list))
-    ∷ BadBlock when illegal (b .list)
-    ∷ []
+blockRules b roomy = countRules (b .paired) (length (b .list)) roomy ++ (BadBlock when illegal (b .list) ∷ [])
 
 -- 10: the blocks need more than the length
 abbrev pub spaceRules : ℕ → Lent → List Rule

@@ -6,7 +6,7 @@ ghost use mathlib.Core.Bool.{_&&_};
 ghost use lib.Dec.{leb};
 ghost use lib.ListN.{length};
 ghost use Rattle.rules.specs.Block.{blocks, coloured, illegalColour, illegalBlock, illegal};
-ghost use Rattle.rules.specs.Refusal.{verdict, lengthRules, blockRules};
+ghost use Rattle.rules.specs.Refusal.{verdict, lengthRules, countRules, blockRules};
 
 // A colour that is blank, or has not exactly one bit.
 pub fn illegal_colour(colour: u32) -> bool
@@ -54,23 +54,36 @@ pub fn judge_length(line_length: usize) -> Verdict
     Verdict::Fine
 }
 
-// Rules 2, 3 and 4. `roomy`: the lists to write have room.
-pub fn judge_blocks(sizes: &[u32], colours: &[u32], roomy: bool) -> Verdict
-    ensures { λ r. ⌜ r ≡ verdict (blockRules (coloured (now (sizes .entry)) (now (colours .entry))) roomy) ⌝ }
+// Rules 2 and 3. `paired`: the lists that hold the blocks have one length. `roomy`: the lists to write have room.
+pub fn judge_count(paired: bool, count: usize, roomy: bool) -> Verdict
+    ensures { λ r. ⌜ r ≡ verdict (countRules paired count roomy) ⌝ }
 {
-    if sizes.len() != colours.len() {
+    if !paired {
         return Verdict::Bad(Refusal::BadRoom);
     }
     if !roomy {
         return Verdict::Bad(Refusal::BadRoom);
     }
-    if 64 < sizes.len() {
+    if 64 < count {
         return Verdict::Bad(Refusal::TooManyBlocks);
     }
-    if any_illegal(sizes, colours) {
-        return Verdict::Bad(Refusal::BadBlock);
-    }
     Verdict::Fine
+}
+
+// Rules 2, 3 and 4.
+pub fn judge_blocks(sizes: &[u32], colours: &[u32], roomy: bool) -> Verdict
+    ensures { λ r. ⌜ r ≡ verdict (blockRules (coloured (now (sizes .entry)) (now (colours .entry))) roomy) ⌝ }
+{
+    let v = judge_count(sizes.len() == colours.len(), sizes.len(), roomy);
+    match v {
+        Verdict::Bad(w) => Verdict::Bad(w),
+        Verdict::Fine => {
+            if any_illegal(sizes, colours) {
+                return Verdict::Bad(Refusal::BadBlock);
+            }
+            Verdict::Fine
+        }
+    }
 }
 
 // Whether two lists have room for `count` entries.

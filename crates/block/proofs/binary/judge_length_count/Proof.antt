@@ -1,9 +1,8 @@
 -- `binary::judge_length_count` meets its contract: one rule after the other.
 use mathlib.Core.Bool.{true}
-use mathlib.Core.Path.{sym, ap, _∙_}
-use Rattle.block.specs.Steps.{countRules}
-use Rattle.rules.proofs.Verdicts.{_then_, verdict-append}
-use Rattle.rules.specs.Refusal.{verdict, lengthRules}
+use mathlib.Core.Path.{sym, _∙_}
+use Rattle.rules.proofs.Verdicts.{append-bad, append-fine}
+use Rattle.rules.specs.Refusal.{lengthRules, countRules}
 use borrow.Author.Needs.{needs}
 use Rattle.block.proofs.binary.judge_length_count.Statement.{statement}
 use Rattle.block.proofs.binary.judge_length_count.Tie as tie
@@ -25,16 +24,15 @@ returns c =
     let args = c .before .before .before .before .args in
     let judge-length = c .before .before .before .judge-length in
     sym
-    (verdict-append (lengthRules (args .length)) (countRules (args .count) true)
-    ∙ ap (λ v. v then verdict (countRules (args .count) true)) (sym (judge-length .ensures) ∙ c .before .v .given .1))
+    (append-bad (lengthRules (args .length)) (countRules true (args .count) true) (sym (judge-length .ensures) ∙ c .before .v .given .1))
 
 returns-2 : tie.Need-returns-2
 returns-2 c =
     let args = c .before .before .before .before .args in
     let judge-length = c .before .before .before .judge-length in
     c .judge-count .ensures
-    ∙ sym (verdict-append (lengthRules (args .length)) (countRules (args .count) true)
-    ∙ ap (λ v. v then verdict (countRules (args .count) true)) (sym (judge-length .ensures) ∙ c .before .enum-told .given .1))
+    ∙ sym (append-fine (lengthRules (args .length)) (countRules true (args .count) true)
+    (sym (judge-length .ensures) ∙ c .before .enum-told .given .1))
 
 pub judge-length-count-spec : {M : Type 1} → statement M
 judge-length-count-spec =

@@ -1,11 +1,13 @@
 -- `binary::partial_sums` meets its contract: the coloured call's, at black blocks.
 use Prim.Native.Nat.{_≤_}
+use mathlib.Core.Bool.{true}
 use lib.Dec.{leb}
 use lib.ListN.{length}
 use mathlib.Core.Path.{sym, _∙_, subst}
-use Rattle.block.proofs.Judged.{count-fine, blacks-length, black-lent, count-bad}
+use Rattle.block.proofs.Judged.{blacks-length, black-lent, count-bad}
 use Rattle.block.specs.Calls.{PartialSums}
 use Rattle.rules.proofs.Replies.{writes-refused}
+use Rattle.rules.proofs.Verdicts.{count-fine}
 use Rattle.rules.specs.Block.{Lent}
 use borrow.Author.Needs.{needs}
 use Rattle.block.proofs.binary.partial_sums.Statement.{statement}
@@ -28,7 +30,7 @@ few : (c : tie.After-enum-told) → length (from-enum-told c .args .sizes .now) 
 few c =
     let args = c .before .before .before .before .before .args in
     let judge-count = c .before .before .judge-count in
-    count-fine (length (args .sizes .now)) (leb (length (args .sizes .now)) (length (args .sums .now)))
+    count-fine true (length (args .sizes .now)) (leb (length (args .sizes .now)) (length (args .sums .now)))
     (sym (judge-count .ensures) ∙ c .enum-told .given .1) .few
 
 array-share-prefix-black : tie.Need-array-share-prefix-black
@@ -47,7 +49,7 @@ returns c =
     let args = c .before .before .before .before .before .before .args in
     let judge-count = c .before .before .before .judge-count in
     writes-refused
-    (count-bad (args .sizes .now) (λ n. leb n (length (args .sums .now))) _ (sym (judge-count .ensures) ∙ c .before .v .given .1))
+    (count-bad (args .sizes .now) (λ n. leb n (length (args .sums .now))) (sym (judge-count .ensures) ∙ c .before .v .given .1))
 
 same-length : tie.Need-same-length
 same-length c = search needs

@@ -43,7 +43,7 @@ returns : tie.Need-returns
 returns c =
     let args = c .before .before .before .before .before .args in
     let judge-length-count = c .before .before .before .judge-length-count in
-    positions-refused (length-count-bad (args .length) (args .sizes .now) _ (sym (judge-length-count .ensures) ∙ c .before .v .given .1))
+    positions-refused (length-count-bad (args .length) (args .sizes .now) (sym (judge-length-count .ensures) ∙ c .before .v .given .1))
 
 returns-2 : tie.Need-returns-2
 returns-2 c =

@@ -2,8 +2,9 @@
 use lib.ListN.{length}
 use mathlib.Core.List.{_++_}
 use mathlib.Core.Path.{sym, _∙_}
-use Rattle.clue.proofs.Told.{codes-after-bad, sides, grid-same}
-use Rattle.clue.specs.Calls.{gridFits}
+use Rattle.clue.proofs.Told.{sides, grid-same}
+use Rattle.rules.proofs.Verdicts.{append-bad}
+use Rattle.clue.specs.Calls.{codeRules, gridFits}
 use Rattle.rules.specs.Clue.{mixedCode}
 use Rattle.rules.specs.Refusal.{lengthRules}
 use borrow.Author.Needs.{needs}
@@ -36,10 +37,11 @@ returns c =
     let args = c .before .before .before .before .before .args in
     let judge-sides = c .before .before .before .judge-sides in
     sym
-    (codes-after-bad (lengthRules (args .width) ++ lengthRules (args .height))
+    (append-bad (lengthRules (args .width) ++ lengthRules (args .height))
+    (codeRules
     (gridFits (args .width) (args .height) (length (args .codes .now)) (args .row-counts) (args .row-sizes) (args .column-counts)
     (args .column-sizes))
-    (mixedCode (args .blank) (args .codes .now)) (sym (judge-sides .ensures) ∙ c .before .v .given .1))
+    (mixedCode (args .blank) (args .codes .now))) (sym (judge-sides .ensures) ∙ c .before .v .given .1))
 
 returns-2 : tie.Need-returns-2
 returns-2 c =

@@ -5,8 +5,9 @@ use lib.ListN.{length}
 use mathlib.Core.Bool.{Bool, _&&_}
 use mathlib.Core.List.{_++_}
 use mathlib.Core.Path.{sym, ap, _∙_}
-use Rattle.clue.proofs.Told.{codes-after-bad, sides, grid-same}
-use Rattle.clue.specs.Calls.{gridFits}
+use Rattle.clue.proofs.Told.{sides, grid-same}
+use Rattle.rules.proofs.Verdicts.{append-bad}
+use Rattle.clue.specs.Calls.{codeRules, gridFits}
 use Rattle.rules.specs.Clue.{badCode}
 use Rattle.rules.specs.Refusal.{lengthRules}
 use borrow.Author.Needs.{needs}
@@ -45,11 +46,12 @@ returns c =
     let args = c .before .before .before .before .before .args in
     let judge-sides = c .before .before .before .judge-sides in
     sym
-    (codes-after-bad (lengthRules (args .width) ++ lengthRules (args .height))
+    (append-bad (lengthRules (args .width) ++ lengthRules (args .height))
+    (codeRules
     (gridFits (args .width) (args .height) (length (args .codes .now)) (args .row-counts) (args .row-sizes) (args .column-counts)
     (args .column-sizes) &&
     (leb (args .width * args .height) (args .row-colours) && leb (args .width * args .height) (args .column-colours)))
-    (badCode (args .blank) (args .codes .now)) (sym (judge-sides .ensures) ∙ c .before .v .given .1))
+    (badCode (args .blank) (args .codes .now))) (sym (judge-sides .ensures) ∙ c .before .v .given .1))
 
 returns-2 : tie.Need-returns-2
 returns-2 c =
@@ -59,7 +61,9 @@ returns-2 c =
     let judge-sides = c .before .before .before .before .before .before .judge-sides in
     let enum-told = c .before .before .before .before .enum-told in
     let f = colours-fit .ensures
-    ∙ ap (λ (x : Bool). x && (leb (args .width * args .height) (args .row-colours) && leb (args .width * args .height) (args .column-colours))) (grid-fits .ensures) in
+    ∙ ap
+    (λ (x : Bool). x && (leb (args .width * args .height) (args .row-colours) && leb (args .width * args .height) (args .column-colours)))
+    (grid-fits .ensures) in
     c .judge-codes .ensures
     ∙ sym (grid-same (args .width) (args .height) (sym (judge-sides .ensures) ∙ enum-told .given .1) f (c .before .bad-code .ensures))
 

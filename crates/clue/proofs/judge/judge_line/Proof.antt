@@ -1,6 +1,7 @@
 -- `judge::judge_line` meets its contract: one rule after the other.
 use mathlib.Core.Path.{sym, _∙_}
-use Rattle.clue.proofs.Told.{codes-after-bad, codes-after-fine}
+use Rattle.clue.specs.Calls.{codeRules}
+use Rattle.rules.proofs.Verdicts.{append-bad, append-fine}
 use Rattle.rules.specs.Refusal.{lengthRules}
 use borrow.Author.Needs.{needs}
 use Rattle.clue.proofs.judge.judge_line.Statement.{statement}
@@ -22,14 +23,16 @@ returns : tie.Need-returns
 returns c =
     let args = c .before .before .before .before .args in
     let judge-length = c .before .before .before .judge-length in
-    sym (codes-after-bad (lengthRules (args .length)) (args .roomy) (args .bad) (sym (judge-length .ensures) ∙ c .before .v .given .1))
+    sym (append-bad (lengthRules (args .length)) (codeRules (args .roomy) (args .bad)) (sym (judge-length .ensures) ∙ c .before .v .given .1))
 
 returns-2 : tie.Need-returns-2
 returns-2 c =
     let args = c .before .before .before .before .args in
     let judge-length = c .before .before .before .judge-length in
     c .judge-codes .ensures
-    ∙ sym (codes-after-fine (lengthRules (args .length)) (args .roomy) (args .bad) (sym (judge-length .ensures) ∙ c .before .enum-told .given .1))
+    ∙ sym
+    (append-fine (lengthRules (args .length)) (codeRules (args .roomy) (args .bad))
+    (sym (judge-length .ensures) ∙ c .before .enum-told .given .1))
 
 pub judge-line-spec : {M : Type 1} → statement M
 judge-line-spec =

@@ -1,7 +1,7 @@
 -- `judge::judge_sides` meets its contract: one rule after the other.
-use mathlib.Core.Path.{sym, ap, _∙_}
-use Rattle.rules.proofs.Verdicts.{_then_, verdict-append}
-use Rattle.rules.specs.Refusal.{verdict, lengthRules}
+use mathlib.Core.Path.{sym, _∙_}
+use Rattle.rules.proofs.Verdicts.{append-bad, append-fine}
+use Rattle.rules.specs.Refusal.{lengthRules}
 use borrow.Author.Needs.{needs}
 use Rattle.clue.proofs.judge.judge_sides.Statement.{statement}
 use Rattle.clue.proofs.judge.judge_sides.Tie as tie
@@ -22,17 +22,14 @@ returns : tie.Need-returns
 returns c =
     let args = c .before .before .before .before .args in
     let judge-length = c .before .before .before .judge-length in
-    sym
-    (verdict-append (lengthRules (args .width)) (lengthRules (args .height))
-    ∙ ap (λ v. v then verdict (lengthRules (args .height))) (sym (judge-length .ensures) ∙ c .before .v .given .1))
+    sym (append-bad (lengthRules (args .width)) (lengthRules (args .height)) (sym (judge-length .ensures) ∙ c .before .v .given .1))
 
 returns-2 : tie.Need-returns-2
 returns-2 c =
     let args = c .before .before .before .before .args in
     let judge-length = c .before .before .before .judge-length in
     c .judge-length2 .ensures
-    ∙ sym (verdict-append (lengthRules (args .width)) (lengthRules (args .height))
-    ∙ ap (λ v. v then verdict (lengthRules (args .height))) (sym (judge-length .ensures) ∙ c .before .enum-told .given .1))
+    ∙ sym (append-fine (lengthRules (args .width)) (lengthRules (args .height)) (sym (judge-length .ensures) ∙ c .before .enum-told .given .1))
 
 pub judge-sides-spec : {M : Type 1} → statement M
 judge-sides-spec =

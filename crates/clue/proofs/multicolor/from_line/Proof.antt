@@ -3,7 +3,8 @@ use Prim.Native.Nat.{_≤_}
 use lib.ListN.{length}
 use mathlib.Core.Bool.{true}
 use mathlib.Core.Path.{_≡_, sym, _∙_}
-use Rattle.clue.proofs.Told.{line-fine, line-same, rooms, coloured-done}
+use Rattle.clue.proofs.Told.{line-fine, line-same, coloured-done}
+use Rattle.rules.proofs.Tests.{rooms}
 use Rattle.rules.proofs.Replies.{blocks-refused}
 use native.Mathlib.Omega.{arith}
 use borrow.Author.Needs.{needs}
@@ -43,7 +44,7 @@ roomy : (c : tie.After-enum-told)
 roomy c =
     let args = c .before .before .before .before .before .before .before .before .args in
     let both-room = c .before .before .before .before .both-room in
-    rooms (length (args .codes .now)) (length (args .sizes .now)) (length (args .colours .now)) (both-room .ensures) (short c .1)
+    rooms (length (args .codes .now)) (length (args .sizes .now)) (length (args .colours .now)) (sym (both-room .ensures) ∙ short c .1)
 
 write-line-requires : tie.Need-write-line-requires
 write-line-requires c κs = (short (c .before) .0, omega (arith, roomy (c .before) .0))

@@ -1,4 +1,4 @@
--- `multicolor::retain` meets its contract: in each list, what is left to write gives the whole.
+-- `base::retain` meets its contract: in each list, what is left to write gives the whole.
 use Prim.Native.Nat.{_≤_, _-_}
 use borrow.Author.Tests.{not-true, not-false}
 use lib.ListN.{length, drop}
@@ -7,21 +7,21 @@ use Rattle.block.proofs.Described.{drop-block, keep-block}
 use Rattle.loops.proofs.Going.{Going, going-start, going-put, going-on, going-done}
 use Rattle.rules.proofs.Blocks.{blocks-end}
 use Rattle.rules.specs.Block.{sizesOf, coloursOf, blocks}
-use Rattle.rules.specs.Clue.{colouredDefault, described}
+use Rattle.rules.specs.Clue.{described}
 use borrow.Author.Needs.{needs}
 use native.Mathlib.Omega.{arith}
-use Rattle.block.proofs.multicolor.retain.Statement.{statement}
-use Rattle.block.proofs.multicolor.retain.Tie as tie
+use Rattle.block.proofs.base.retain.Statement.{statement}
+use Rattle.block.proofs.base.retain.Tie as tie
 
 abbrev Inv-loop : tie.InvT-loop
-Inv-loop sizes colours out-sizes₀ out-colours₀ count₀ i₀ out-sizes out-colours count i =
-    (i ≤ length sizes) × (count ≤ i) × Going out-sizes₀ 0 (sizesOf (described colouredDefault (blocks sizes colours))) out-sizes count
-    (sizesOf (described colouredDefault (blocks (drop i sizes) (drop i colours)))) × Going out-colours₀ 0
-    (coloursOf (described colouredDefault (blocks sizes colours))) out-colours count
-    (coloursOf (described colouredDefault (blocks (drop i sizes) (drop i colours))))
+Inv-loop sizes colours default-colour out-sizes₀ out-colours₀ count₀ i₀ out-sizes out-colours count i =
+    (i ≤ length sizes) × (count ≤ i) × Going out-sizes₀ 0 (sizesOf (described default-colour (blocks sizes colours))) out-sizes count
+    (sizesOf (described default-colour (blocks (drop i sizes) (drop i colours)))) × Going out-colours₀ 0
+    (coloursOf (described default-colour (blocks sizes colours))) out-colours count
+    (coloursOf (described default-colour (blocks (drop i sizes) (drop i colours))))
 
 abbrev μ-loop : tie.MeasureT-loop
-μ-loop sizes colours out-sizes₀ out-colours₀ count₀ i₀ out-sizes out-colours count i = length sizes - i
+μ-loop sizes colours default-colour out-sizes₀ out-colours₀ count₀ i₀ out-sizes out-colours count i = length sizes - i
 
 loop-holds : tie.Need-loop-holds Inv-loop μ-loop
 loop-holds c = (omega arith, omega arith, going-start _ _ _, going-start _ _ _)
@@ -69,7 +69,7 @@ loop-again c =
     let loop-test = c .before .before .before .before .loop-test in
     let pre = c .before .before .before .before .before .before .before .before .before .before .pre in
     let is-default = c .before .is-default in
-    let e = keep-block colouredDefault (args .sizes .now) (args .colours .now) (loop .i) (loop-test .taken) (pre .equal)
+    let e = keep-block (args .default-colour) (args .sizes .now) (args .colours .now) (loop .i) (loop-test .taken) (pre .equal)
     (sym (is-default .ensures) ∙ not-true (is-default .result) (c .if1 .taken)) in
     (omega arith, omega arith, going-put (loop .inv .2) (ap sizesOf e), going-put (loop .inv .3) (ap coloursOf e))
 
@@ -83,7 +83,7 @@ loop-again-2 c =
     let loop-test = c .before .before .before .before .loop-test in
     let pre = c .before .before .before .before .before .before .before .before .before .before .pre in
     let is-default = c .before .is-default in
-    let e = drop-block colouredDefault (args .sizes .now) (args .colours .now) (loop .i) (loop-test .taken) (pre .equal)
+    let e = drop-block (args .default-colour) (args .sizes .now) (args .colours .now) (loop .i) (loop-test .taken) (pre .equal)
     (sym (is-default .ensures) ∙ not-false (is-default .result) (c .if1 .left)) in
     (omega arith, omega arith, going-on (loop .inv .2) (ap sizesOf e), going-on (loop .inv .3) (ap coloursOf e))
 
@@ -98,8 +98,8 @@ returns c =
     let args = c .before .before .before .before .before .before .args in
     let loop = c .before .loop in let e = blocks-end (args .sizes .now) (args .colours .now) (loop .i) (c .loop-test .left) in
     record {
-      size-list = going-done (loop .inv .2) (ap (λ bs. sizesOf (described colouredDefault bs)) e);
-      colour-list = going-done (loop .inv .3) (ap (λ bs. coloursOf (described colouredDefault bs)) e);
+      size-list = going-done (loop .inv .2) (ap (λ bs. sizesOf (described (args .default-colour) bs)) e);
+      colour-list = going-done (loop .inv .3) (ap (λ bs. coloursOf (described (args .default-colour) bs)) e);
     }
 
 pub retain-spec : {M : Type 1} → statement M
