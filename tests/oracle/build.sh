@@ -11,27 +11,7 @@ here=$(cd "$(dirname "$0")" && pwd)
 crate=$(cd "$1" && pwd)/src
 mkdir -p "$2"
 out=$(cd "$2" && pwd)
-registry=${DEBIAN_CARGO_REGISTRY:-/usr/share/cargo/registry}
-files="block.rs block/base.rs block/binary.rs block/multicolor.rs board.rs cache.rs utils.rs solver/line.rs solver/propagation.rs"
-
-# Lays out a cargo project of the shell here and the crate's files in the folder $1.
-lay_out() {
-  mkdir -p "$1/src/block" "$1/src/solver" "$1/bin" "$1/.cargo"
-  cp "$here/Cargo.toml" "$1/"
-  cp "$here/lib.rs" "$here/solver.rs" "$1/src/"
-  cp "$here/driver.rs" "$here/trace.rs" "$1/bin/"
-  for f in $files; do cp "$crate/$f" "$1/src/$f"; done
-  cat > "$1/.cargo/config.toml" <<CONFIG
-[source.crates-io]
-replace-with = "debian"
-
-[source.debian]
-directory = "$registry"
-
-[net]
-offline = true
-CONFIG
-}
+. "$here/lay_out.sh"
 
 # Makes the one unstable sort stable, and fails if there is not exactly one.
 make_stable() {
@@ -44,7 +24,7 @@ make_stable() {
 
 for kind in untouched stable; do
   work=$out/build-$kind
-  lay_out "$work"
+  lay_out "$crate" "$work" driver "$here/driver.rs" "$here/trace.rs"
   if [ $kind = stable ]; then make_stable "$work/src/solver/propagation.rs"; fi
   (cd "$work" && cargo build --release --offline -j1)
   cp "$work/target/release/driver" "$out/driver-$kind"

@@ -1,4 +1,4 @@
-"""Writes what a replay of the block layer's sample must write: how many cases each call has in the file, none of them different.
+"""Writes what a replay of samples must write: how many cases each call has in the files, none of them different.
 
 Usage: expect_replay.py SAMPLE > stdout
 """
@@ -6,15 +6,15 @@ Usage: expect_replay.py SAMPLE > stdout
 import sys
 from collections import Counter
 
-from reading import CALLS
+from reading import CALLS, LINE_CALLS
 
 
 def main():
     with open(sys.argv[1]) as sample:
         lines = [line.split("#")[0].split() for line in sample]
     cases = Counter(int(words[0]) for words in lines if words)
-    for call in CALLS:
-        print(f"{CALLS[call].name}: {cases[call]} cases, 0 differ")
+    for call, told in {**CALLS, **LINE_CALLS}.items():
+        print(f"{told.name}: {cases[call]} cases, 0 differ")
     print(f"all calls: {sum(cases.values())} cases, 0 differ")
     print("the input was read to its end")
 

@@ -1,12 +1,19 @@
-"""An independent reading of document 01 for the calls on blocks and clues: what each call answers, refusals included.
+"""An independent reading of document 01 for the calls on blocks, clues and lines: what each call answers, refusals included.
 
 It was written from the document alone and shares nothing with the port or the crate. Each call takes the rooms of the lists that it
 may write, then its inputs in the port's order, and answers (number, values, written): the document's number, the values that come
 with 0, and for each output list the entries written at its front. A refusal has no values and writes nothing.
 """
 
+from functools import reduce
+from operator import or_
+
 MOST_LENGTH = 64
 MOST_BLOCKS = 64
+LEAST_MEMO = 65 * 64
+BLANK, BLACK = 1, 2
+# The sets that the binary cells 0, 1 and 2 read as.
+BINARY_SETS = [BLANK | BLACK, BLANK, BLACK]
 
 
 class Refused(Exception):
@@ -146,6 +153,63 @@ def grid_clues(coloured):
     return clues_from_solution
 
 
+def paint(sizes, colours):
+    """All placements at once, as ways through states that paint a cell each: what each state paints, and the states that may stand
+    before it. State 0 is the blank at the line's start; then come each block's cells and one blank after the block."""
+    paints, before = [BLANK], [{0}]
+    for k, (size, colour) in enumerate(zip(sizes, colours)):
+        blank, first = len(paints) - 1, len(paints)
+        touching = k > 0 and colours[k - 1] != colour
+        paints += [colour] * size + [BLANK]
+        before += [{blank, blank - 1} if touching else {blank}]
+        before += [{state - 1} for state in range(first + 1, first + size)]
+        before += [{first + size, first + size - 1}]
+    return paints, before
+
+
+def reach(cells, paints, before):
+    """For each cell the states that the cells before it lead to and that it can take. A line begins in the first blank or block."""
+    ways, states = [], set(range(min(2, len(paints))))
+    for cell in cells:
+        ways.append({state for state in states if cell & paints[state]})
+        states = {state for state in range(len(paints)) if before[state] & ways[-1]}
+    return ways
+
+
+def solve_sets(cells, sizes, colours):
+    """Each cell's union over the agreeing placements: what those of its states paint that lead on to the line's end. A line ends in the
+    last blank or block."""
+    refuse(8, sum(sizes) > len(cells))
+    paints, before = paint(sizes, colours)
+    ways = reach(cells, paints, before)
+    ends = {len(paints) - 1, max(0, len(paints) - 2)}
+    for way in reversed(ways):
+        way &= ends
+        ends = set().union(*(before[state] for state in way))
+    refuse(8, not ways[0])
+    return [reduce(or_, (paints[state] for state in way)) for way in ways]
+
+
+def judge_line(rooms, cells, sizes, colours):
+    memo, out = rooms
+    judge_lengths(len(cells))
+    refuse(2, memo < LEAST_MEMO or out != len(cells))
+    judge_blocks(sizes, colours, [])
+    judge_legal(sizes, colours)
+
+
+def solve_coloured(rooms, cells, sizes, colours):
+    judge_line(rooms, cells, sizes, colours)
+    return (), (solve_sets(cells, sizes, colours),)
+
+
+def solve_binary(rooms, cells, sizes):
+    judge_line(rooms, cells, sizes, None)
+    refuse(5, any(cell > 2 for cell in cells))
+    unions = solve_sets([BINARY_SETS[cell] for cell in cells], sizes, [BLACK] * len(sizes))
+    return (), ([BINARY_SETS.index(union) for union in unions],)
+
+
 class Call:
     """One public call: its name, its inputs (numbers, then lists), the lists it writes, and what the document says it answers."""
 
@@ -190,4 +254,9 @@ CALLS = {
         grid_clues(False),
         "gb",
     ),
+}
+# The same for the calls on lines. Their rooms are the memo's and the output's.
+LINE_CALLS = {
+    14: Call("multicolor::solve", "", "cells sizes colours", "out", solve_coloured, "lc"),
+    15: Call("binary::solve", "", "cells sizes", "out", solve_binary, "lb"),
 }

@@ -1,4 +1,4 @@
--- What a verdict on a line's blocks tells, and black blocks, which are what a binary list lends.
+-- What a verdict on a line's blocks tells.
 use mathlib.Core.Path.{_≡_, refl, sym, ap, ap₂, _∙_}
 use mathlib.Core.Bool.{Bool, true}
 use mathlib.Core.List.{List, [], _∷_, _++_, map}
@@ -18,21 +18,6 @@ use Rattle.rules.proofs.Verdicts.{_then_, fine-cons, verdict-append, append-bad
 use Rattle.block.specs.Calls.{rangeRules}
 use Rattle.block.specs.Steps.{spaceOf}
 use Rattle.block.specs.declared.Space.the-variants.{Slack, Tight}
-
--- ---- black blocks
-
-pub black-blocks : (ns : List ℕ) (k : ℕ) → length ns ≤ k → blocks ns (take (length ns) (replicate k 2)) ≡ map black ns
-black-blocks [] k h = refl
-black-blocks (n ∷ ns) zero h = absurd (omega arith)
-black-blocks (n ∷ ns) (suc k) h = ap (λ l. black n ∷ l) (black-blocks ns k (omega arith))
-
-pub blacks-length : (n k : ℕ) → n ≤ k → length (take n (replicate k (suc (suc zero)))) ≡ n
-blacks-length zero k h = refl
-blacks-length (suc n) zero h = absurd (omega arith)
-blacks-length (suc n) (suc k) h = ap suc (blacks-length n k (omega arith))
-
-pub black-lent : (ns : List ℕ) → length ns ≤ 64 → coloured ns (take (length ns) (replicate 64 2)) ≡ binary ns
-black-lent ns h = ap₂ (λ t l. record { paired = t; list = l }) (eq-eqb _ _ (sym (blacks-length (length ns) 64 h))) (black-blocks ns 64 h)
 
 -- what the binary call refuses, the coloured rules of black blocks refuse alike
 pub count-bad : (ns : List ℕ) (f : ℕ → Bool) {w : Refusal} → verdict (countRules true (length ns) (f (length ns))) ≡ Bad w

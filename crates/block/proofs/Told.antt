@@ -1,7 +1,7 @@
 -- The statements of the public calls, from what their parts tell.
 use lib.ListN.{take, replicate, length, length-map}
 use mathlib.Core.Path.{subst, _≡_, sym, ap, _∙_}
-use Rattle.block.proofs.Judged.{black-blocks, blacks-length, slack-is, tight-is, range-fine, range-split}
+use Rattle.block.proofs.Judged.{slack-is, tight-is, range-fine, range-split}
 use Rattle.rules.proofs.Replies.{same, writes-refused, writes-done, blocks-refused, blocks-done}
 use Rattle.rules.proofs.Verdicts.{Counted, count-fine, blocks-fine, pair-fine, count-same, room-same}
 use mathlib.Core.Bool.{Bool, true, _&&_}
@@ -20,7 +20,7 @@ use Rattle.rules.specs.declared.Refusal.{Refusal}
 use Rattle.rules.specs.declared.Verdict.the-variants.{Fine, Bad}
 use Rattle.rules.specs.declared.ListAnswer.the-variants.{Done, Refused}
 use Rattle.rules.proofs.Tests.{both-true, rooms}
-use Rattle.rules.proofs.Blocks.{length-blocks, colours-back}
+use Rattle.rules.proofs.Blocks.{length-blocks, colours-back, black-blocks, blacks-length}
 use Rattle.loops.specs.Put.{Put}
 use Rattle.loops.proofs.Going.{written-sets, put-count, put-written}
 use Rattle.block.specs.Calls.{roomy, rangeRules, descriptionRules, PositionsNumber, ColorRanges, ColouredDescription, BinaryDescription}

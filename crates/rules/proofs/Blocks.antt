@@ -1,18 +1,18 @@
 -- Blocks in two lists, one block at a time; and the test of rule 4, which is false exactly of legal blocks.
-use mathlib.Core.Path.{_≡_, refl, ap, _∙_}
+use mathlib.Core.Path.{_≡_, refl, sym, ap, ap₂, _∙_}
 use mathlib.Core.Logic.{_≢_}
-use mathlib.Core.Bool.{false, not}
-use mathlib.Core.List.{List, [], _∷_}
-use Prim.Native.Nat.{ℕ, suc, _+_, _≤_, _<_}
+use mathlib.Core.Bool.{Bool, true, false, cond, not}
+use mathlib.Core.List.{List, [], _∷_, map}
+use Prim.Native.Nat.{ℕ, zero, suc, _+_, _≤_, _<_}
 use native.Mathlib.Numerals.{add-one}
 use native.Mathlib.Omega.{arith}
-use borrow.Author.Tests.{eqb-true, eqb-false, not-false, ne-eqb}
+use borrow.Author.Tests.{eqb-true, eqb-false, not-false, eq-eqb, ne-eqb}
 use lib.Count.{ones}
 use lib.Dec.{eqb}
-use lib.ListN.{length, drop, getD, drop-of-length-le}
+use lib.ListN.{length, take, drop, getD, replicate, drop-of-length-le}
 use lib.Seq.{drop-cons}
 use Rattle.rules.specs.Colour.{Colour}
-use Rattle.rules.specs.Block.{Block, _of_, sizesOf, coloursOf, blocks, Legal, legal-none, legal-block, illegalColour, illegalBlock, illegal}
+use Rattle.rules.specs.Block.{Block, _of_, black, sizesOf, coloursOf, blocks, coloured, binary, Legal, legal-none, legal-block, illegalColour, illegalBlock, illegal}
 use Rattle.rules.proofs.Tests.{cond-false}
 use Rattle.rules.proofs.Colours.{one-colour, ones-pow}
 
@@ -63,3 +63,33 @@ test-legal (b ∷ bs) e =
 pub legal-test : {bs : List Block} → Legal bs → illegal bs ≡ false
 legal-test legal-none = refl
 legal-test (legal-block {b = b} s c d o) = rw (ne-eqb (b .size) 0 (λ e. omega arith), colour-legal (b .colour) c d) (legal-test o)
+
+-- ---- black blocks, which are what a binary list lends
+
+pub black-blocks : (ns : List ℕ) (k : ℕ) → length ns ≤ k → blocks ns (take (length ns) (replicate k 2)) ≡ map black ns
+black-blocks [] k h = refl
+black-blocks (n ∷ ns) zero h = absurd (omega arith)
+black-blocks (n ∷ ns) (suc k) h = ap (λ l. black n ∷ l) (black-blocks ns k (omega arith))
+
+pub blacks-length : (n k : ℕ) → n ≤ k → length (take n (replicate k (suc (suc zero)))) ≡ n
+blacks-length zero k h = refl
+blacks-length (suc n) zero h = absurd (omega arith)
+blacks-length (suc n) (suc k) h = ap suc (blacks-length n k (omega arith))
+
+pub black-lent : (ns : List ℕ) → length ns ≤ 64 → coloured ns (take (length ns) (replicate 64 2)) ≡ binary ns
+black-lent ns h = ap₂ (λ t l. record { paired = t; list = l }) (eq-eqb _ _ (sym (blacks-length (length ns) 64 h))) (black-blocks ns 64 h)
+
+-- a black block is legal unless it is empty
+black-block : (n : ℕ) → illegalBlock n 2 ≡ eqb n 0
+black-block n = rw (colour-legal 2 (1, refl) (λ e. omega arith)) (itself (eqb n 0))
+  where
+    itself : (t : Bool) → cond t true false ≡ t
+    itself true = refl
+    itself false = refl
+
+module _ (ns : List ℕ) (i : ℕ) where
+  pub black-step : i < length ns → illegal (map black (drop i ns)) ≡ cond (eqb (getD ns i 0) 0) true (illegal (map black (drop (i + 1) ns)))
+  black-step h = rw (add-one i, drop-cons ns i 0 h) (ap (λ t. cond t true (illegal (map black (drop (suc i) ns)))) (black-block (getD ns i 0)))
+
+  pub black-end : length ns ≤ i → illegal (map black (drop i ns)) ≡ false
+  black-end h = rw (drop-of-length-le ns h)

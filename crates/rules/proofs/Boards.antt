@@ -13,7 +13,7 @@ use Rattle.rules.specs.Colour.{Has}
 use Rattle.rules.specs.Answer.{Within}
 use Rattle.rules.specs.declared.LinePosition.{LinePosition}
 use Rattle.rules.specs.Board.{row, len, On, place, tabulate, lineOf, put, store}
-use Rattle.rules.proofs.Colours.{not-has-zero}
+use Rattle.rules.proofs.Colours.{not-has-zero, has-inside}
 use Rattle.rules.specs.declared.LinePosition.the-variants.{Row, Column}
 
 -- ---- lists
@@ -94,11 +94,7 @@ module _ (w h : ℕ) where
 
   -- beyond a line's end there is nothing
   pub line-end : (b : List ℕ) (l : LinePosition) (i k : ℕ) → Has (getD (lineOf w h b l) i 0) k → i < len w h l
-  line-end b l i k g = go (decLt i (len w h l))
-    where
-      go : Dec (i < len w h l) → i < len w h l
-      go (yes p) = p
-      go (no f) = absurd (not-has-zero (rw (List·getD-eq-default (lineOf w h b l) 0 {n = i} (omega (arith, length-line b l))) at g))
+  line-end b l i k g = omega (arith, has-inside (lineOf w h b l) i k g, length-line b l)
 
   pub line-within : {s b : List ℕ} (l : LinePosition) → Within s b → Within (lineOf w h s l) (lineOf w h b l)
   line-within {s} {b} l u =

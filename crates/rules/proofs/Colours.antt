@@ -1,6 +1,7 @@
 -- The laws of colour sets.
 use mathlib.Core.Path.{_≡_, refl, sym, ap, _∙_, subst}
 use mathlib.Core.Logic.{_⊎_, inl, inr, _≢_}
+use mathlib.Core.List.{List}
 use Prim.Native.Nat.{ℕ, zero, suc, _/_, _%_, _^_, _≤_, _<_, min, max, zero-le}
 use native.Mathlib.Nat.{mod-lt, zero-lt-suc, pow-suc, mul-div-cancel, mul-mod-left, le-antisymm}
 use native.Mathlib.Omega.{arith}
@@ -8,7 +9,9 @@ use lib.Arith.{digits-mod, bin-ind}
 use lib.Bits.{bitAnd, bitOr, or-step, and-step, or-shr, and-shr}
 use lib.Count.{ones, ones-step, ones-le}
 use lib.Dec.{T, T-not, not-T, eqb, eqb→eq, lit<}
+use lib.ListN.{length, getD, List·getD-eq-default}
 use Rattle.rules.specs.Colour.{bit, Has, Subset, Colour, canTake}
+use Rattle.rules.proofs.Tests.{below?}
 
 -- a number below 2 is 0 or 1
 two : (n : ℕ) → n < 2 → (n ≡ 0) ⊎ (n ≡ 1)
@@ -87,6 +90,10 @@ subset-antisym {s} {t} f g = bit-ext s t λ k. le-antisymm (subset-le f k) (subs
 
 pub not-has-zero : {k : ℕ} → Has 0 k → ⊥
 not-has-zero {k} h = omega (arith, bit-zero k)
+
+-- a cell that has a colour is one of the list
+pub has-inside : (m : List ℕ) (i k : ℕ) → Has (getD m i 0) k → i < length m
+has-inside m i k g = below? i (length m) (λ h. h) (λ h. absurd (not-has-zero (rw (List·getD-eq-default m 0 {n = i} h) at g)))
 
 pub zero-subset : (s : ℕ) → Subset 0 s
 zero-subset s k h = absurd (not-has-zero h)

@@ -2,7 +2,7 @@
 use mathlib.Core.Path.{refl, sym, ap, subst}
 use mathlib.Core.Bool.{Bool, true, false}
 use mathlib.Core.Logic.{_⊎_, inl, inr, ⊎-elim, _↔_}
-use mathlib.Core.List.{List, [], _∷_, _++_, map, List·Memᴰ, List·Memᴰ·head, List·Memᴰ·tail, List·Memᴰ·not-nil, List·Memᴰ·cases-cons, List·Memᴰ·append-cases, List·Memᴰ·eq-of-singleton, Memᴰ·append-left, Memᴰ·append-right}
+use mathlib.Core.List.{List, [], _∷_, _++_, append-assoc, append-nil, map, List·Memᴰ, List·Memᴰ·head, List·Memᴰ·tail, List·Memᴰ·not-nil, List·Memᴰ·cases-cons, List·Memᴰ·append-cases, List·Memᴰ·eq-of-singleton, Memᴰ·append-left, Memᴰ·append-right}
 use Prim.Native.Nat.{ℕ, zero, suc, _-_, _≤_}
 use native.Mathlib.Omega.{arith}
 use lib.Dec.{T, eqb, leb, leb→le, le→leb}
@@ -114,3 +114,15 @@ pieces-proper (legal-block {b = b} {bs = bs} s c d o) p m =
 
 pub placement-proper : {bs : List Block} {n : ℕ} → Legal bs → (l : List ℕ) → Placement bs n l → Proper l
 placement-proper o l d = laid-proper (pieces-proper o) (d .laid)
+
+-- ---- a line that grows on the right
+
+pub blank-end : {ps : List (List ℕ)} {l : List ℕ} → Laid ps l → Laid ps (l ++ (1 ∷ []))
+blank-end end = blank end
+blank-end (blank d) = blank (blank-end d)
+blank-end (piece {p = p} {ps = ps} {l = l} d) = rw append-assoc (piece (blank-end d))
+
+pub piece-end : {ps : List (List ℕ)} {l : List ℕ} (q : List ℕ) → Laid ps l → Laid (ps ++ (q ∷ [])) (l ++ q)
+piece-end q end = subst (Laid (q ∷ [])) (append-nil q) (piece end)
+piece-end q (blank d) = blank (piece-end q d)
+piece-end q (piece {p = p} {ps = ps} {l = l} d) = rw append-assoc (piece (piece-end q d))

@@ -2,7 +2,8 @@
 use mathlib.Core.Path.{_≡_, refl, sym}
 use mathlib.Core.Bool.{Bool, true, false, cond, _&&_}
 use mathlib.Core.Logic.{_⊎_, inl, inr, _≢_}
-use Prim.Native.Nat.{ℕ, _≤_}
+use Prim.Native.Nat.{ℕ, _<_, _≤_}
+use native.Mathlib.Decide.{decLt}
 use native.Mathlib.Omega.{arith}
 use borrow.Author.Tests.{eqb-true, eqb-false, leb-true}
 use lib.Dec.{eqb, leb}
@@ -17,6 +18,10 @@ eqb-cases a b = go (eqb a b) refl
     go : (t : Bool) → eqb a b ≡ t → Compared a b
     go true e = inl (eqb-true a b e, e)
     go false e = inr (eqb-false a b e, e)
+
+-- a number is below another or not
+pub below? {ℓ} : {P : Type ℓ} (a b : ℕ) → (a < b → P) → (b ≤ a → P) → P
+below? a b f g = elim (decLt a b) [ yes h ↦ f h | no h ↦ g (omega arith) ]
 
 pub true-not-false : true ≡ false → ⊥
 true-not-false e = let z : _≡_ {A = ℕ} 0 1 = cc in omega arith

@@ -2,13 +2,13 @@
 use mathlib.Core.Path.{_≡_, refl, sym, ap, subst, _∙_}
 use mathlib.Core.Logic.{_⊎_, inl, inr}
 use mathlib.Core.Bool.{Bool, true, false, cond, not}
-use mathlib.Core.List.{List, [], _∷_, _++_, List·Memᴰ, List·Memᴰ·head, List·Memᴰ·tail, List·Memᴰ·not-nil, List·Memᴰ·cases-cons}
+use mathlib.Core.List.{List, [], _∷_, _++_, map, List·Memᴰ, List·Memᴰ·head, List·Memᴰ·tail, List·Memᴰ·not-nil, List·Memᴰ·cases-cons}
 use Prim.Native.Nat.{ℕ, _≤_, _<_}
 use native.Mathlib.Omega.{arith}
 use borrow.Author.Tests.{eqb-false, ltb-false, not-false, leb-true, eqb-true}
 use lib.Dec.{eqb, ltb, leb}
-use lib.ListN.{length}
-use Rattle.rules.specs.Block.{Lent, blocks, coloured, illegal}
+use lib.ListN.{length, length-map}
+use Rattle.rules.specs.Block.{Lent, black, blocks, coloured, binary, illegal}
 use Rattle.rules.specs.Refusal.{refusalNumber, Rule, _when_, verdict, ascending, Lowest, lengthRules, countRules, blockRules}
 use Rattle.rules.specs.declared.Refusal.{Refusal}
 use Rattle.rules.specs.declared.Refusal.the-variants.{BadLength, BadRoom, TooManyBlocks, BadBlock}
@@ -174,3 +174,10 @@ module _ (ns cs : List ℕ) where
   pub room-same : (f : ℕ → Bool)
       → verdict (blockRules (coloured ns cs) (f (length (blocks ns cs)))) ≡ verdict (blockRules (coloured ns cs) (f (length ns)))
   room-same f = blocks-split f ∙ sym (blocks-split (λ n. f (length ns)))
+
+-- the same of black blocks
+pub black-split : (ns : List ℕ) (roomy : Bool) → verdict (blockRules (binary ns) roomy)
+    ≡ verdict (countRules true (length ns) roomy) then verdict (BadBlock when illegal (map black ns) ∷ [])
+black-split ns roomy =
+    verdict-append (countRules true (length (map black ns)) roomy) (BadBlock when illegal (map black ns) ∷ [])
+    ∙ ap (λ n. verdict (countRules true n roomy) then verdict (BadBlock when illegal (map black ns) ∷ [])) (length-map ns black)

@@ -3,9 +3,10 @@ use crate::Refusal;
 use crate::Verdict;
 ghost use mathlib.Core.Path.{_≡_};
 ghost use mathlib.Core.Bool.{_&&_};
+ghost use mathlib.Core.List.{map};
 ghost use lib.Dec.{leb};
 ghost use lib.ListN.{length};
-ghost use Rattle.rules.specs.Block.{blocks, coloured, illegalColour, illegalBlock, illegal};
+ghost use Rattle.rules.specs.Block.{black, blocks, coloured, binary, illegalColour, illegalBlock, illegal};
 ghost use Rattle.rules.specs.Refusal.{verdict, lengthRules, countRules, blockRules};
 
 // A colour that is blank, or has not exactly one bit.
@@ -79,6 +80,35 @@ pub fn judge_blocks(sizes: &[u32], colours: &[u32], roomy: bool) -> Verdict
         Verdict::Bad(w) => Verdict::Bad(w),
         Verdict::Fine => {
             if any_illegal(sizes, colours) {
+                return Verdict::Bad(Refusal::BadBlock);
+            }
+            Verdict::Fine
+        }
+    }
+}
+
+fn any_empty(sizes: &[u32]) -> bool
+    ensures { λ r. ⌜ r ≡ illegal (map black (now (sizes .entry))) ⌝ }
+{
+    let mut i = 0;
+    while i < sizes.len() {
+        if sizes[i] == 0 {
+            return true;
+        }
+        i += 1;
+    }
+    false
+}
+
+// The same of black blocks.
+pub fn judge_black(sizes: &[u32], roomy: bool) -> Verdict
+    ensures { λ r. ⌜ r ≡ verdict (blockRules (binary (now (sizes .entry))) roomy) ⌝ }
+{
+    let v = judge_count(true, sizes.len(), roomy);
+    match v {
+        Verdict::Bad(w) => Verdict::Bad(w),
+        Verdict::Fine => {
+            if any_empty(sizes) {
                 return Verdict::Bad(Refusal::BadBlock);
             }
             Verdict::Fine

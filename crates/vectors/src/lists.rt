@@ -24,6 +24,14 @@ pub struct Pair {
     pub reader: Reader,
 }
 
+// How many cells, sizes and colours of a line were read.
+pub struct Line {
+    pub cells: usize,
+    pub sizes: usize,
+    pub colours: usize,
+    pub reader: Reader,
+}
+
 // A picture that was read, and how many codes it has.
 pub struct Picture {
     pub width: usize,
@@ -67,7 +75,7 @@ pub fn widen(entry: u32) -> u64
 }
 
 fn fill(list: &mut [u32])
-    ensures { λ _. ⌜ Filled (now (list .exit)) (length (now (list .exit))) ⌝ }
+    ensures { λ _. ⌜ Filled fillerAt (now (list .exit)) (length (now (list .exit))) ⌝ }
 {
     let mut i = 0;
     while i < list.len() {
@@ -77,7 +85,7 @@ fn fill(list: &mut [u32])
 }
 
 fn fill_wide(list: &mut [u64])
-    ensures { λ _. ⌜ Filled (now (list .exit)) (length (now (list .exit))) ⌝ }
+    ensures { λ _. ⌜ Filled fillerAt (now (list .exit)) (length (now (list .exit))) ⌝ }
 {
     let mut i = 0;
     while i < list.len() {
@@ -179,6 +187,30 @@ pub fn read_pair(buffer: &mut [u8], reader: Reader, first: &mut [u32], second: &
     Pair {
         first: one.count,
         second: two.count,
+        reader,
+    }
+}
+
+// Reads a line: its cells, and the sizes and colours of its blocks.
+pub fn read_line(
+    buffer: &mut [u8],
+    reader: Reader,
+    cells: &mut [u32],
+    sizes: &mut [u32],
+    colours: &mut [u32],
+) -> Line
+    ensures { λ r. ⌜ Counts (r .cells) (now (cells .exit)) ⌝ }
+    ensures { λ r. ⌜ Counts (r .sizes) (now (sizes .exit)) ⌝ }
+    ensures { λ r. ⌜ Counts (r .colours) (now (colours .exit)) ⌝ }
+{
+    let listed = read(buffer, reader, cells);
+    let reader = listed.reader;
+    let pair = read_pair(buffer, reader, sizes, colours);
+    let reader = pair.reader;
+    Line {
+        cells: listed.count,
+        sizes: pair.first,
+        colours: pair.second,
         reader,
     }
 }

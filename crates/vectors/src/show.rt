@@ -1,4 +1,5 @@
 // Writes lists so that a person can read them: what a call is given, and what it leaves.
+use crate::bytes;
 use crate::lists::widen;
 use crate::lists::written;
 use crate::lists::written_wide;
@@ -71,4 +72,10 @@ pub fn write_left_wide(name: &[u8], list: &[u64]) {
     let end = written_wide(list);
     write_wide(name, &list[..end]);
     write_kept(list.len() - end);
+}
+
+// A name, and how many bytes of a filled list are as they were after the last that is not.
+pub fn write_left_bytes(name: &[u8], turn: usize, list: &[u8]) {
+    write_text(name);
+    write_kept(list.len() - bytes::written(turn, list));
 }

@@ -3,7 +3,7 @@ use lib.Dec.{leb}
 use lib.ListN.{length}
 use mathlib.Core.Bool.{true}
 use mathlib.Core.Path.{_≡_, sym, _∙_}
-use Rattle.block.proofs.Judged.{blacks-length}
+use Rattle.rules.proofs.Blocks.{blacks-length}
 use Rattle.block.proofs.Told.{binary-refused, binary-few, binary-retainable, binary-done}
 use Rattle.rules.specs.Refusal.{verdict, countRules}
 use Rattle.rules.specs.declared.Verdict.the-variants.{Fine}

@@ -4,7 +4,8 @@ use mathlib.Core.Bool.{true}
 use lib.Dec.{leb}
 use lib.ListN.{length}
 use mathlib.Core.Path.{sym, _∙_, subst}
-use Rattle.block.proofs.Judged.{blacks-length, black-lent, count-bad}
+use Rattle.block.proofs.Judged.{count-bad}
+use Rattle.rules.proofs.Blocks.{blacks-length, black-lent}
 use Rattle.block.specs.Calls.{PartialSums}
 use Rattle.rules.proofs.Replies.{writes-refused}
 use Rattle.rules.proofs.Verdicts.{count-fine}

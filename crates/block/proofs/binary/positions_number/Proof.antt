@@ -2,7 +2,8 @@
 use Prim.Native.Nat.{_≤_}
 use lib.ListN.{length}
 use mathlib.Core.Path.{sym, _∙_, subst}
-use Rattle.block.proofs.Judged.{blacks-length, black-lent, length-count-few, length-count-bad}
+use Rattle.block.proofs.Judged.{length-count-few, length-count-bad}
+use Rattle.rules.proofs.Blocks.{blacks-length, black-lent}
 use Rattle.block.proofs.Told.{positions-refused}
 use Rattle.block.specs.Calls.{PositionsNumber}
 use Rattle.rules.specs.Block.{Lent}

@@ -2,14 +2,14 @@
 use Prim.Native.Nat.{_≤_, _-_}
 use mathlib.Core.Path.{_≡_, _∙_}
 use lib.ListN.{length}
-use Rattle.vectors.specs.Fillers.{Filled}
+use Rattle.vectors.specs.Fillers.{fillerAt, Filled}
 use Rattle.vectors.proofs.Filled.{filled-none, filled-more, filled-whole}
 use borrow.Author.Needs.{needs}
 use Rattle.vectors.proofs.lists.fill_wide.Statement.{statement}
 use Rattle.vectors.proofs.lists.fill_wide.Tie as tie
 
 abbrev Inv-loop : tie.InvT-loop
-Inv-loop list₀ i₀ list i = (i ≤ length list₀) × (length list ≡ length list₀) × Filled list i
+Inv-loop list₀ i₀ list i = (i ≤ length list₀) × (length list ≡ length list₀) × Filled fillerAt list i
 
 abbrev μ-loop : tie.MeasureT-loop
 μ-loop list₀ i₀ list i = length list₀ - i

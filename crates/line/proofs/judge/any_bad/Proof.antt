@@ -1,0 +1,57 @@
+-- `judge::any_bad` meets its contract: no cell before i is bad.
+use Prim.Native.Nat.{_≤_, _-_}
+use lib.Dec.{ltb}
+use lib.ListN.{length, drop}
+use mathlib.Core.Path.{_≡_, refl, sym, _∙_}
+use borrow.Author.Tests.{lt-ltb, le-ltb}
+use Rattle.loops.proofs.Searching.{any-step, any-end}
+use Rattle.rules.specs.Ranges.{anyOf}
+use borrow.Author.Needs.{needs}
+use native.Mathlib.Omega.{arith}
+use Rattle.line.proofs.judge.any_bad.Statement.{statement}
+use Rattle.line.proofs.judge.any_bad.Tie as tie
+
+abbrev Inv-loop : tie.InvT-loop
+Inv-loop cells i₀ i = (i ≤ length cells) × (anyOf (λ c. ltb 2 c) cells ≡ anyOf (λ c. ltb 2 c) (drop i cells))
+
+abbrev μ-loop : tie.MeasureT-loop
+μ-loop cells i₀ i = length cells - i
+
+loop-holds : tie.Need-loop-holds Inv-loop μ-loop
+loop-holds c = (omega arith, refl)
+
+mul-if1 : tie.Need-mul-if1 Inv-loop μ-loop
+mul-if1 c = search needs
+
+shared-slice-read-if1 : tie.Need-shared-slice-read-if1 Inv-loop μ-loop
+shared-slice-read-if1 c = search needs
+
+returns : tie.Need-returns Inv-loop μ-loop
+returns c = let loop = c .before .before .before .loop in sym (loop .inv .1 ∙ any-step _ _ (loop .i) (c .before .before .loop-test .taken) ∙ simp (lt-ltb _ _ (c .if1 .taken)))
+
+add-i : tie.Need-add-i Inv-loop μ-loop
+add-i c = search needs
+
+loop-less : tie.Need-loop-less Inv-loop μ-loop
+loop-less c = search needs
+
+loop-again : tie.Need-loop-again Inv-loop μ-loop
+loop-again c = let loop = c .before .before .before .loop in (omega arith, loop .inv .1 ∙ any-step _ _ (loop .i) (c .before .before .loop-test .taken) ∙ simp (le-ltb _ _ (c .if1 .left)))
+
+returns-2 : tie.Need-returns-2 Inv-loop μ-loop
+returns-2 c = sym (c .before .loop .inv .1 ∙ any-end _ _ _ (c .loop-test .left))
+
+pub any-bad-spec : {M : Type 1} → statement M
+any-bad-spec =
+    tie.close
+    (tie.spec
+    Inv-loop
+    μ-loop
+    loop-holds
+    mul-if1
+    shared-slice-read-if1
+    returns
+    add-i
+    loop-less
+    loop-again
+    returns-2)

@@ -1,0 +1,54 @@
+-- `judge::judge_binary_cells` meets its contract: the blocks are judged, and then the cells.
+use mathlib.Core.Path.{sym, _∙_}
+use Rattle.rules.specs.Block.{binary}
+use Rattle.rules.specs.Refusal.{blockRules}
+use Rattle.rules.proofs.Verdicts.{append-bad, append-fine}
+use Rattle.line.specs.Calls.{cellRules}
+use borrow.Author.Needs.{needs}
+use Rattle.line.proofs.judge.judge_binary_cells.Statement.{statement}
+use Rattle.line.proofs.judge.judge_binary_cells.Tie as tie
+use Rattle.line.proofs.judge.any_bad.Reads as any-bad-reads
+use Rattle.rules.proofs.judge.judge_black.Reads as judge-black-reads
+
+judge-black-requires : tie.Need-judge-black-requires
+judge-black-requires c κs = search needs
+
+enum-known-v : tie.Need-enum-known-v
+enum-known-v c = search needs
+
+enum-told : tie.Need-enum-told
+enum-told c = search needs
+
+any-bad-requires : tie.Need-any-bad-requires
+any-bad-requires c κs = search needs
+
+returns : tie.Need-returns
+returns c =
+    let args = c .before .before .before .before .before .before .before .args in
+    sym
+    (append-fine (blockRules (binary (args .sizes .now)) (args .roomy)) (cellRules (args .cells .now)) (sym (c .before .before .before .before .judge-black .ensures) ∙ c .before .before .enum-told .given .1)
+    ∙ rw (sym (c .before .any-bad .ensures) ∙ c .if1 .taken))
+
+returns-2 : tie.Need-returns-2
+returns-2 c =
+    let args = c .before .before .before .before .before .before .args in
+    sym (append-bad (blockRules (binary (args .sizes .now)) (args .roomy)) (cellRules (args .cells .now)) (sym (c .before .before .before .judge-black .ensures) ∙ c .before .v .given .1))
+
+returns-3 : tie.Need-returns-3
+returns-3 c =
+    let args = c .before .before .before .before .before .before .before .args in
+    sym
+    (append-fine (blockRules (binary (args .sizes .now)) (args .roomy)) (cellRules (args .cells .now)) (sym (c .before .before .before .before .judge-black .ensures) ∙ c .before .before .enum-told .given .1)
+    ∙ rw (sym (c .before .any-bad .ensures) ∙ c .if1 .left))
+
+pub judge-binary-cells-spec : {M : Type 1} → statement M
+judge-binary-cells-spec =
+    tie.close
+    (tie.spec
+    judge-black-requires
+    enum-known-v
+    enum-told
+    any-bad-requires
+    returns
+    returns-2
+    returns-3)

@@ -1,0 +1,61 @@
+-- `multicolor::solve` meets its contract: the line is judged, and then solved.
+use mathlib.Core.Path.{sym, _∙_}
+use Rattle.rules.specs.Block.{coloured}
+use Rattle.line.proofs.Told.{line-ready, solves-refused, solves-done, solves-none}
+use borrow.Author.Needs.{needs}
+use Rattle.line.proofs.multicolor.solve.Statement.{statement}
+use Rattle.line.proofs.multicolor.solve.Tie as tie
+use Rattle.line.proofs.judge.judge_line.Reads as judge-line-reads
+use Rattle.line.proofs.multicolor.solve_legal.Reads as solve-legal-reads
+
+judge-line-requires : tie.Need-judge-line-requires
+judge-line-requires c κs = search needs
+
+enum-known-v : tie.Need-enum-known-v
+enum-known-v c = search needs
+
+enum-told : tie.Need-enum-told
+enum-told c = search needs
+
+solve-legal-requires : tie.Need-solve-legal-requires
+solve-legal-requires c κs =
+    let args = c .before .before .before .before .before .before .before .before .before .before .args in
+    line-ready (args .cells .now) (coloured (args .sizes .now) (args .colours .now)) (args .memo .now) (args .out .now)
+    (sym (c .before .before .before .before .judge-line .ensures) ∙ c .before .before .enum-told .given .1)
+
+same-length : tie.Need-same-length
+same-length c = search needs
+
+same-length-2 : tie.Need-same-length-2
+same-length-2 c = search needs
+
+returns : tie.Need-returns
+returns c = solves-done (sym (c .before .before .before .before .before .before .before .before .before .before .judge-line .ensures) ∙ c .before .before .before .before .before .before .before .before .enum-told .given .1) (c .before .before .before .before .before .solve-legal .kept .1 .1 .1 .0) (rw (c .if1 .taken) at (c .before .before .before .before .before .solve-legal .ensures))
+
+returns-2 : tie.Need-returns-2
+returns-2 c = solves-refused (sym (c .before .before .before .judge-line .ensures) ∙ c .before .v .given .1)
+
+same-length-3 : tie.Need-same-length-3
+same-length-3 c = search needs
+
+same-length-4 : tie.Need-same-length-4
+same-length-4 c = search needs
+
+returns-3 : tie.Need-returns-3
+returns-3 c = solves-none (sym (c .before .before .before .before .before .before .before .before .before .before .judge-line .ensures) ∙ c .before .before .before .before .before .before .before .before .enum-told .given .1) (c .before .before .before .before .before .solve-legal .kept .1 .1 .1 .0) (rw (c .if1 .left) at (c .before .before .before .before .before .solve-legal .ensures))
+
+pub solve-spec : {M : Type 1} → statement M
+solve-spec =
+    tie.close
+    (tie.spec
+    judge-line-requires
+    enum-known-v
+    enum-told
+    solve-legal-requires
+    same-length
+    same-length-2
+    returns
+    returns-2
+    same-length-3
+    same-length-4
+    returns-3)
