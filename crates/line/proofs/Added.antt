@@ -1,11 +1,10 @@
 -- Laws of `Added`: what a run of additions to the answer is together.
 use mathlib.Core.Path.{_≡_, refl, ap, _∙_}
 use mathlib.Core.List.{List}
-use Prim.Native.Nat.{ℕ, _+_, _≤_, _<_}
+use Prim.Native.Nat.{ℕ, _≤_, _<_}
 use native.Mathlib.Omega.{arith}
 use lib.Bits.{bitOr}
 use lib.ListN.{getD}
-use Rattle.rules.specs.Colour.{Has}
 use Rattle.rules.proofs.Tests.{below?}
 use Rattle.rules.proofs.Colours.{has-left, has-right}
 use Rattle.line.specs.Steps.{Added, Covered, Grows}

@@ -1,28 +1,22 @@
 -- Fillings are the paper's placements: one that shows a line's blocks is a list in which their pieces are laid, and back.
 use mathlib.Core.Path.{_≡_, refl, sym, ap, ap₂, _∙_, subst, fun-ext}
-use mathlib.Core.Bool.{Bool, true, false, not}
-use mathlib.Core.Logic.{⊎-elim, _≢_}
 use mathlib.Core.List.{List, [], _∷_, _++_}
 use Prim.Native.Nat.{ℕ, zero, suc, _+_, _-_, _≤_, _<_}
 use native.Mathlib.Nat.{add-zero, zero-add, not-suc-le-zero, le-of-suc-le-suc}
 use native.Mathlib.Numerals.{add-one}
 use native.Mathlib.Decide.{decLt}
 use native.Mathlib.Omega.{arith}
-use borrow.Author.Tests.{eq-eqb, ne-eqb}
-use lib.Dec.{T, eqb}
+use lib.Dec.{T}
 use lib.ListN.{length, getD, take, drop, replicate, length-replicate, getD-replicate, length-append, List·getD-append, length-drop}
 use lib.Seq.{take-suc, drop-cons, take-all, getD-append-add}
 use Rattle.rules.specs.Colour.{canTake}
-use Rattle.rules.specs.Block.{Block, blocks, Legal, legal-none, legal-block}
-use Rattle.rules.specs.Placement.{pieces, Laid, end, blank, piece, Lay}
-use Rattle.rules.specs.Placement.{gap as gapOf}
+use Rattle.rules.specs.Placement.{Laid, end, blank, piece, Lay}
 use Rattle.rules.specs.Answer.{agrees, Fitting}
 use Rattle.rules.specs.Board.{tabulate}
-use Rattle.rules.proofs.Tests.{Compared, eqb-cases}
 use Rattle.rules.proofs.Lists.{T-both, T-left, T-right}
 use Rattle.rules.proofs.Placements.{blank-end, piece-end}
 use Rattle.rules.proofs.Boards.{length-tabulate, getD-tabulate}
-use Rattle.line.specs.Filling.{Line, pick, gap, BlockAt, Shows, edge, AgreesTo, Fits, Solution}
+use Rattle.line.specs.Filling.{Line, gap, BlockAt, Shows, edge, AgreesTo, Solution}
 use Rattle.line.specs.Filling.{blank as blankAt, block as blockAt}
 
 -- ---- agreeing, cell by cell
@@ -51,7 +45,8 @@ tabulate-add (suc p) n f =
 
 tabulate-same : (n c : ℕ) (f : ℕ → ℕ) → ((i : ℕ) → i < n → f i ≡ c) → tabulate n f ≡ replicate n c
 tabulate-same zero c f h = refl
-tabulate-same (suc n) c f h = ap₂ (λ (a : ℕ) (l : List ℕ). a ∷ l) (h 0 (omega arith)) (tabulate-same n c (λ i. f (suc i)) (λ i k. h (suc i) (omega arith)))
+tabulate-same (suc n) c f h = ap₂ (λ (a : ℕ) (l : List ℕ). a ∷ l) (h 0 (omega arith))
+    (tabulate-same n c (λ i. f (suc i)) (λ i k. h (suc i) (omega arith)))
 
 -- ---- pieces by their numbers
 
@@ -138,11 +133,13 @@ module _ {L : Line} {ps : List (List ℕ)} (P : PiecesOf L ps) where
       subst (λ (x : ℕ). Shows L f (p + 0) x) k (rw (add-zero p) s)
   laid-from {f} (blank {l = l} d) p b h e r s =
       let q : p + suc (length l) ≡ p + 1 + length l = omega arith in
-      rw q (laid-from d (p + 1) b h e (λ i v. ap f (let z : p + 1 + i ≡ p + suc i = omega arith in z) ∙ r (suc i) (omega arith)) (blankAt s refl (sym (ap f (add-zero p)) ∙ r 0 (omega arith))))
+      rw q (laid-from d (p + 1) b h e (λ i v. ap f (let z : p + 1 + i ≡ p + suc i = omega arith in z) ∙ r (suc i) (omega arith))
+      (blankAt s refl (sym (ap f (add-zero p)) ∙ r 0 (omega arith))))
   laid-from {f} (piece {p = q} {ps = qs} {l = l} d) p b h e r s = go (decLt b (L .count)) (λ p′ b′ h′ e′ r′ s′. laid-from d p′ b′ h′ e′ r′ s′)
     where
       go : Dec (b < L .count)
-          → ((p b : ℕ) → b ≤ L .count → qs ≡ drop b ps → ((i : ℕ) → i < length l → f (p + i) ≡ getD l i 0) → Shows L f p b → Shows L f (p + length l) (L .count))
+          → ((p b : ℕ) → b ≤ L .count → qs ≡ drop b ps → ((i : ℕ) → i < length l → f (p + i) ≡ getD l i 0) → Shows L f p b
+          → Shows L f (p + length l) (L .count))
           → Shows L f (p + length (q ++ l)) (L .count)
       go (no z) up = absurd (omega (arith, ap length e, length-drop b ps, P .many))
       go (yes z) up =
@@ -152,7 +149,8 @@ module _ {L : Line} {ps : List (List ℕ)} (P : PiecesOf L ps) where
           let n : p + length (q ++ l) ≡ p + length q + length l = omega (arith, length-append q l) in
           let B : BlockAt L f b p (p + length q) = rw q-is (piece-block b p l z (rw q-is at r)) in
           rw n (up (p + length q) (b + 1) (omega arith) qs-is
-          (λ i v. ap f (let y : p + length q + i ≡ p + (length q + i) = omega arith in y) ∙ r (length q + i) (omega (arith, length-append q l)) ∙ getD-append-add q l i 0)
+          (λ i v. ap f (let y : p + length q + i ≡ p + (length q + i) = omega arith in y) ∙ r (length q + i) (omega (arith, length-append q l))
+          ∙ getD-append-add q l i 0)
           (blockAt s refl B))
 
   -- ---- a line whose cells the list has

@@ -1,18 +1,16 @@
 -- The laws of fillings: how a filling of the first cells ends, how an answer grows by a piece, and how the memo learns.
-use mathlib.Core.Path.{_≡_, refl, sym, ap, subst, _∙_}
+use mathlib.Core.Path.{_≡_, refl, sym, subst, _∙_}
 use mathlib.Core.Bool.{Bool, true, false, _||_, false≢true, true≢false}
 use mathlib.Core.Logic.{_⊎_, inl, inr, ⊎-elim}
 use mathlib.Core.List.{List}
-use Prim.Native.Nat.{ℕ, zero, suc, _+_, _*_, _≤_, _<_}
+use Prim.Native.Nat.{ℕ, zero, suc, _+_, _≤_, _<_}
 use native.Mathlib.Decide.{ℕ-discrete}
 use native.Mathlib.Numerals.{add-one}
 use native.Mathlib.Omega.{arith}
 use borrow.Author.Tests.{lt-ltb, le-ltb, eqb-true, eqb-false}
-use lib.Bits.{bitOr}
 use lib.Dec.{T, ltb, eqb}
 use lib.ListN.{length, getD, set, length-set}
 use lib.Seq.{getD-set-same, getD-set-other}
-use Rattle.rules.specs.Colour.{Has, canTake}
 use Rattle.rules.proofs.Tests.{below?}
 use Rattle.rules.proofs.Colours.{has-or}
 use Rattle.line.specs.Filling.{Line, pick, taken, space, BlockAt, Shows, edge, blank, block, AgreesTo, Fits, Solution}
@@ -129,7 +127,8 @@ module _ (L : Line) where
 
   -- a branch whose test fails leaves all as it is
   pub no-branch : {Q : (ℕ → ℕ) → Type 0} (q : ℕ) {memo out : List ℕ} → Good L memo out → ((f : ℕ → ℕ) → Q f → ⊥) → Tell L Q q false out memo out
-  no-branch q G n = still G (record { covered = λ f x. absurd (n f x); decides = record { yes = λ e. absurd (false≢true e); no = λ e x. n (x .0) (x .1) } })
+  no-branch q G n = still G
+      (record { covered = λ f x. absurd (n f x); decides = record { yes = λ e. absurd (false≢true e); no = λ e x. n (x .0) (x .1) } })
 
   module _ {Q : (ℕ → ℕ) → Type 0} {p b q : ℕ} {h : ℕ → ℕ} (P : Piece Q p b q h) where
     -- a filling of the first p cells, with h put after it
@@ -163,7 +162,8 @@ module _ (L : Line) where
           (r .0, (r .1 .0, λ i l. r .1 .1 i (omega arith) ∙ patch-lt p g h i l))
 
       -- where the branch below finds something, and the piece's colours are added
-      pub piece : {out memo′ out₁ out₂ : List ℕ} → q ≤ L .length → Tell L (Fits L p b) p true out memo′ out₁ → Added out₁ out₂ p q h → Tell L Q q true out memo′ out₂
+      pub piece : {out memo′ out₁ out₂ : List ℕ} → q ≤ L .length → Tell L (Fits L p b) p true out memo′ out₁ → Added out₁ out₂ p q h
+          → Tell L Q q true out memo′ out₂
       unfolding Grows
       piece {out₁ = out₁} {out₂ = out₂} qn T A =
           let G = T .good in
@@ -191,7 +191,8 @@ module _ (L : Line) where
           }
 
   -- the two ways to end together
-  either : (at b : ℕ) (r₁ r₂ : Bool) {out memo₁ out₁ memo₂ out₂ : List ℕ} → Tell L (EndsBlank L at b) (at + 1) r₁ out memo₁ out₁ → Tell L (EndsBlock L at b) (at + 1) r₂ out₁ memo₂ out₂ → Decides ((f : ℕ → ℕ) × Fits L (at + 1) b f) (r₁ || r₂)
+  either : (at b : ℕ) (r₁ r₂ : Bool) {out memo₁ out₁ memo₂ out₂ : List ℕ} → Tell L (EndsBlank L at b) (at + 1) r₁ out memo₁ out₁
+      → Tell L (EndsBlock L at b) (at + 1) r₂ out₁ memo₂ out₂ → Decides ((f : ℕ → ℕ) × Fits L (at + 1) b f) (r₁ || r₂)
   either at b true r₂ T U = record {
     yes = λ e. let x = T .answer .decides .yes refl in (x .0, blank-fits at b (x .1));
     no = λ e. absurd (true≢false e);
@@ -205,7 +206,8 @@ module _ (L : Line) where
     no = λ e x. ⊎-elim (λ y. T .answer .decides .no refl (x .0, y)) (λ y. U .answer .decides .no refl (x .0, y)) (ends at b (x .1));
   }
 
-  pub both : (at b : ℕ) {r₁ r₂ : Bool} {out memo₁ out₁ memo₂ out₂ : List ℕ} → Tell L (EndsBlank L at b) (at + 1) r₁ out memo₁ out₁ → Tell L (EndsBlock L at b) (at + 1) r₂ out₁ memo₂ out₂ → Tell L (Fits L (at + 1) b) (at + 1) (r₁ || r₂) out memo₂ out₂
+  pub both : (at b : ℕ) {r₁ r₂ : Bool} {out memo₁ out₁ memo₂ out₂ : List ℕ} → Tell L (EndsBlank L at b) (at + 1) r₁ out memo₁ out₁
+      → Tell L (EndsBlock L at b) (at + 1) r₂ out₁ memo₂ out₂ → Tell L (Fits L (at + 1) b) (at + 1) (r₁ || r₂) out memo₂ out₂
   unfolding Grows
   both at b {r₁} {r₂} T U = record {
     good = U .good;
@@ -217,7 +219,8 @@ module _ (L : Line) where
   }
 
   -- the memo learns an answer
-  pub learn : (at b v : ℕ) {r : Bool} {out memo out′ : List ℕ} → at < L .length → b ≤ L .count → Legal L → eqb v 2 ≡ r → Tell L (Fits L (at + 1) b) (at + 1) r out memo out′ → Tell L (Fits L (at + 1) b) (at + 1) r out (set memo (entryOf at b) v) out′
+  pub learn : (at b v : ℕ) {r : Bool} {out memo out′ : List ℕ} → at < L .length → b ≤ L .count → Legal L → eqb v 2 ≡ r
+      → Tell L (Fits L (at + 1) b) (at + 1) r out memo out′ → Tell L (Fits L (at + 1) b) (at + 1) r out (set memo (entryOf at b) v) out′
   learn at b v {r} {out} {memo} {out′} an bk legal e T = record {
     good = record {
       room = rw length-set (T .good .room);
@@ -237,5 +240,6 @@ module _ (L : Line) where
             let z : b′ ≡ b = omega (arith, legal .few) in
             rw (y, z, getD-set-same memo (entryOf at b) v 0 (omega (arith, legal .short, legal .few, T .good .room)), e) (T .answer)
         | no x ↦
-            rw (getD-set-other memo (entryOf at b) (entryOf at′ b′) v 0 x) (T .good .known at′ b′ u w (rw (getD-set-other memo (entryOf at b) (entryOf at′ b′) v 0 x) at n))
+            rw (getD-set-other memo (entryOf at b) (entryOf at′ b′) v 0 x)
+            (T .good .known at′ b′ u w (rw (getD-set-other memo (entryOf at b) (entryOf at′ b′) v 0 x) at n))
       ]

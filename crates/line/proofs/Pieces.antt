@@ -1,14 +1,14 @@
 -- The two pieces that a filling can end in, as the code finds them: a blank, and a block with its gap.
-use mathlib.Core.Path.{_≡_, refl, sym, ap, _∙_}
+use mathlib.Core.Path.{_≡_, sym, _∙_}
 use mathlib.Core.Bool.{Bool, true, false}
 use Prim.Native.Nat.{ℕ, _+_, _-_, _≤_, _<_}
 use native.Mathlib.Omega.{arith}
 use borrow.Author.Tests.{lt-ltb, le-ltb}
-use lib.Dec.{T, ltb}
+use lib.Dec.{T}
 use lib.IntN.{ℤ, pos, subℕ}
 use Rattle.rules.specs.Colour.{canTake}
 use Rattle.rules.proofs.Tests.{below?}
-use Rattle.line.specs.Filling.{Line, pick, trails, gap, BlockAt, Shows, AgreesTo, Fits}
+use Rattle.line.specs.Filling.{Line, pick, trails, gap, AgreesTo}
 use Rattle.line.specs.Steps.{AllSized, shade, stopOf, CanShow, Lies, Legal, EndsBlank, EndsBlock}
 use Rattle.line.proofs.Ints.{sub-is, is-sub}
 use Rattle.line.proofs.Fillings.{Piece}

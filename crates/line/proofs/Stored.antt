@@ -4,7 +4,6 @@ use mathlib.Core.Logic.{_≢_}
 use mathlib.Core.Bool.{Bool, true, false}
 use mathlib.Core.List.{List}
 use Prim.Native.Nat.{ℕ, zero, suc, _+_, _-_, _≤_, _<_}
-use native.Mathlib.Decide.{decLt}
 use native.Mathlib.Numerals.{add-one}
 use native.Mathlib.Omega.{arith}
 use lib.Dec.{eqb}
@@ -143,7 +142,8 @@ module _ {xs ys : List ℕ} {start b : ℕ} (S : Summing xs ys start b) (few : b
   pub end-space : start + held ys .size b ≡ space (held xs) (b + 1)
   end-space = omega (arith, S .at, size-same, space-more (held xs) b)
 
-  module _ (room : ℕ) (is : room ≡ held ys .size b + pick (trails (held ys) b) 1 0) (end : ℕ) (ends : end ≡ start + held ys .size b) (low : end ≤ 64) (long : 260 ≤ length ys) where
+  module _ (room : ℕ) (is : room ≡ held ys .size b + pick (trails (held ys) b) 1 0) (end : ℕ) (ends : end ≡ start + held ys .size b) (low : end ≤ 64)
+      (long : 260 ≤ length ys) where
     pub summing-more : Summing xs (set ys (193 + (b + 1)) (end - 1)) (start + room) (b + 1)
     summing-more = record {
       kept = record {
@@ -155,7 +155,8 @@ module _ {xs ys : List ℕ} {start b : ℕ} (S : Summing xs ys start b) (few : b
           ∙ sym (taken-more (held xs) b);
       low = omega (arith, pick-le (trails (held ys) b));
       sums = λ c h. below? b c
-          (λ l. let e : c ≡ b + 1 = omega arith in rw e (getD-set-same ys (193 + (b + 1)) (end - 1) 0 (omega arith) ∙ ap (λ x. x - 1) (ends ∙ end-space)))
+          (λ l. let e : c ≡ b + 1 = omega arith in rw e
+          (getD-set-same ys (193 + (b + 1)) (end - 1) 0 (omega arith) ∙ ap (λ x. x - 1) (ends ∙ end-space)))
           (λ l. getD-set-other ys (193 + (b + 1)) (193 + c) (end - 1) 0 (λ e. omega arith) ∙ S .sums c l);
     }
       where

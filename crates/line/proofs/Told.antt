@@ -1,21 +1,21 @@
 -- From the rules and the solver's answer to the promise: what a caller who has judged a line knows, and what the calls then tell.
-use mathlib.Core.Path.{_≡_, refl, sym, ap, ap₂, _∙_, subst}
-use mathlib.Core.Bool.{Bool, true, false}
-use mathlib.Core.List.{List, [], _∷_, _++_, map}
-use mathlib.Core.Option.{Option, none, some}
+use mathlib.Core.Path.{_≡_, refl, sym, ap, ap₂, _∙_}
+use mathlib.Core.Bool.{true, false}
+use mathlib.Core.List.{List, _++_, map}
+use mathlib.Core.Option.{Option, some}
 use Prim.Native.Nat.{ℕ, _≤_}
 use native.Mathlib.Omega.{arith}
 use borrow.Author.Tests.{eqb-true, leb-true}
 use lib.Dec.{eqb, leb}
 use lib.ListN.{length, take, replicate, length-replicate, length-map}
 use lib.Seq.{sets, length-sets}
-use Rattle.rules.specs.Block.{Block, Lent, black, blocks, coloured, binary, illegal}
+use Rattle.rules.specs.Block.{Lent, black, blocks, coloured, binary, illegal}
 use Rattle.rules.specs.Binary.{setOf, cellOf, lineAnswer, readBack, binaryAnswer}
 use Rattle.rules.specs.Refusal.{refusalNumber, Rule, verdict, lengthRules, blockRules}
 use Rattle.rules.specs.declared.Refusal.{Refusal}
 use Rattle.rules.specs.declared.Verdict.the-variants.{Fine, Bad}
 use Rattle.rules.proofs.Tests.{both-true, true-not-false}
-use Rattle.rules.proofs.Blocks.{length-blocks, black-blocks, blacks-length, black-lent}
+use Rattle.rules.proofs.Blocks.{length-blocks, black-blocks, blacks-length}
 use Rattle.rules.proofs.Verdicts.{bad-not-fine, append-parts, length-fine, blocks-fine}
 use Rattle.loops.proofs.Stores.{take-sets}
 use Rattle.line.specs.Calls.{roomFor, lineRules, cellRules, binaryRules, Solves}
@@ -24,7 +24,8 @@ use Rattle.line.specs.Steps.{Solvable, Tried, Ready, Works}
 -- ---- what a line that keeps the rules is
 
 module _ (cells : List ℕ) (b : Lent) (memo out : List ℕ) where
-  rules-ready : verdict (lengthRules (length cells)) ≡ Fine → verdict (blockRules b (roomFor (length cells) (length memo) (length out))) ≡ Fine → Ready cells b memo out
+  rules-ready : verdict (lengthRules (length cells)) ≡ Fine → verdict (blockRules b (roomFor (length cells) (length memo) (length out))) ≡ Fine
+      → Ready cells b memo out
   rules-ready d e =
       let l = length-fine (length cells) d in
       let k = blocks-fine b (roomFor (length cells) (length memo) (length out)) e in
@@ -44,7 +45,8 @@ module _ (cells : List ℕ) (b : Lent) (memo out : List ℕ) where
       let p = append-parts (lengthRules (length cells)) (blockRules b (roomFor (length cells) (length memo) (length out))) e in
       rules-ready (p .0) (p .1)
 
-pub binary-ready : (cells sizes memo out : List ℕ) → verdict (binaryRules cells sizes (length memo) (length out)) ≡ Fine → Ready cells (binary sizes) memo out
+pub binary-ready : (cells sizes memo out : List ℕ) → verdict (binaryRules cells sizes (length memo) (length out)) ≡ Fine
+    → Ready cells (binary sizes) memo out
 binary-ready cells sizes memo out e =
     let room = roomFor (length cells) (length memo) (length out) in
     let p = append-parts (lengthRules (length cells)) (blockRules (binary sizes) room ++ cellRules cells) e in
@@ -53,7 +55,8 @@ binary-ready cells sizes memo out e =
 
 -- ---- the coloured line: its cells are copied to an empty array
 
-module _ (cells sizes colours : List ℕ) {memo out xs : List ℕ} (R : Ready cells (coloured sizes colours) memo out) (e : xs ≡ sets (replicate 260 0) 0 cells) where
+module _ (cells sizes colours : List ℕ) {memo out xs : List ℕ} (R : Ready cells (coloured sizes colours) memo out)
+    (e : xs ≡ sets (replicate 260 0) 0 cells) where
   paired : length sizes ≡ length colours
   paired = eqb-true (length sizes) (length colours) (R .paired)
 
@@ -91,7 +94,8 @@ module _ (cells sizes colours : List ℕ) {memo out xs : List ℕ} (R : Ready ce
 
 -- ---- the binary line: its cells' sets are written there, and its blocks are black
 
-module _ (cells sizes : List ℕ) {memo out xs : List ℕ} (R : Ready cells (binary sizes) memo out) (e : xs ≡ sets (replicate 260 0) 0 (map setOf cells)) where
+module _ (cells sizes : List ℕ) {memo out xs : List ℕ} (R : Ready cells (binary sizes) memo out)
+    (e : xs ≡ sets (replicate 260 0) 0 (map setOf cells)) where
   abbrev black-colours : List ℕ
   black-colours = take (length sizes) (replicate 64 2)
 
@@ -145,4 +149,10 @@ module _ {rules : List Rule} {a : Option (List ℕ)} {memo out : List ℕ} where
     solves-done t = record { tells = rw (e, t .tells); leaves = rw (e, t .tells); kept = λ w d. absurd (bad-not-fine (sym d ∙ e)); long = l }
 
     pub solves-none : Works a out false out′ → Solves rules a memo out 8 memo′ out′
-    solves-none t = record { tells = rw (e, t .tells); leaves = rw (e, t .tells) (t .stays refl); kept = λ w d. absurd (bad-not-fine (sym d ∙ e)); long = l }
+    solves-none t = record {
+      tells = rw (e, t .tells);
+      leaves = rw (e, t .tells) (t .stays refl);
+      kept = λ w d. absurd
+          (bad-not-fine (sym d ∙ e));
+      long = l;
+    }

@@ -1,10 +1,10 @@
 -- The whole line: what the array holds once blocks and sums are written, what the solver is asked there, and that its answer is the paper's.
-use mathlib.Core.Path.{_≡_, refl, sym, ap, ap₂, _∙_, subst}
+use mathlib.Core.Path.{_≡_, refl, sym, ap, _∙_, subst}
 use mathlib.Core.Bool.{Bool, true, false}
 use mathlib.Core.Logic.{⊎-elim, _≢_}
 use mathlib.Core.List.{List, [], _∷_, _++_}
-use mathlib.Core.Option.{Option, none, some}
-use Prim.Native.Nat.{ℕ, zero, suc, _+_, _*_, _-_, _^_, _≤_, _<_}
+use mathlib.Core.Option.{Option, none}
+use Prim.Native.Nat.{ℕ, zero, suc, _+_, _*_, _-_, _≤_, _<_}
 use native.Mathlib.Nat.{not-suc-le-zero, le-of-suc-le-suc}
 use native.Mathlib.Omega.{arith}
 use borrow.Author.Tests.{eq-eqb, ne-eqb}
@@ -18,18 +18,18 @@ use Rattle.rules.specs.Placement.{gap as gapOf}
 use Rattle.rules.specs.Answer.{Fitting, Answers, Exact}
 use Rattle.rules.specs.Binary.{lineAnswer}
 use Rattle.rules.specs.Board.{tabulate}
-use Rattle.rules.proofs.Tests.{Compared, eqb-cases}
+use Rattle.rules.proofs.Tests.{eqb-cases}
 use Rattle.rules.proofs.Colours.{not-has-zero, has-pow, has-inside}
 use Rattle.rules.proofs.Blocks.{test-legal}
 use Rattle.rules.proofs.Answers.{answer-only, answer-for}
 use Rattle.rules.proofs.Placements.{placements-exact}
 use Rattle.rules.proofs.Boards.{getD-tabulate}
 use Rattle.line.specs.Filling.{Line, held, pick, space, Fits, Solution}
-use Rattle.line.specs.Steps.{AllSized, SumsTo, Covered, Cleared, Grows, Good, Rest, Ask, Tell, Holds, Summable, KeptBut, Summed, Solvable, Tried, outcome, entryOf}
+use Rattle.line.specs.Steps.{AllSized, SumsTo, Covered, Cleared, Rest, Ask, Tell, Holds, Summable, KeptBut, Solvable, Tried, outcome, entryOf}
 use Rattle.line.specs.Steps.{Legal as LegalLine}
 use Rattle.line.proofs.Fillings.{space-le}
 use Rattle.line.proofs.Stored.{space-as}
-use Rattle.line.proofs.Bridge.{pieceAt, PiecesOf, fit-solution, solution-fit}
+use Rattle.line.proofs.Bridge.{PiecesOf, fit-solution, solution-fit}
 
 -- ---- the pieces of blocks in two lists, by their numbers
 
@@ -53,7 +53,8 @@ gap-first c (n ∷ ns) (d ∷ ds) e z = ⊎-elim
 abbrev pieceOf : List ℕ → List ℕ → ℕ → List ℕ
 pieceOf ns cs b = replicate (getD ns b 0) (getD cs b 0) ++ replicate (pick (eqb (getD cs (b + 1) 0) (getD cs b 0)) 1 0) 1
 
-piece-of : (ns cs : List ℕ) → length ns ≡ length cs → Legal (blocks ns cs) → (b : ℕ) → b < length ns → getD (pieces (blocks ns cs)) b [] ≡ pieceOf ns cs b
+piece-of : (ns cs : List ℕ) → length ns ≡ length cs → Legal (blocks ns cs) → (b : ℕ) → b < length ns
+    → getD (pieces (blocks ns cs)) b [] ≡ pieceOf ns cs b
 piece-of [] cs e l b h = absurd (not-suc-le-zero h)
 piece-of (n ∷ ns) [] e l b h = absurd (omega arith)
 piece-of (n ∷ ns) (c ∷ cs) e (legal-block s k d l) zero h = ap (λ (t : List ℕ). replicate n c ++ t) (gap-first c ns cs (omega arith) (colour-some k))
@@ -114,7 +115,15 @@ module _ {n : ℕ} {sizes colours xs memo work ys : List ℕ} (S : Solvable n si
       each = λ b h.
           let v : b < length sizes = omega (arith, count-is) in
           piece-of sizes colours (S .fits .paired) legal b v
-          ∙ sym (rw (size-same b v, H .size-is b v, colour-same b (omega arith), H .colour-is b (omega arith), colour-same (b + 1) (omega arith), H .colour-is (b + 1) (omega arith)));
+          ∙ sym (rw (
+            size-same b v,
+            H .size-is b v,
+            colour-same b (omega arith),
+            H .colour-is b (omega arith),
+            colour-same (b + 1)
+                (omega arith),
+            H .colour-is (b + 1) (omega arith),
+          ));
     }
 
     -- ---- what is told
@@ -139,7 +148,8 @@ module _ {n : ℕ} {sizes colours xs memo work ys : List ℕ} (S : Solvable n si
 
     -- the paper has one answer
     one-answer : (o : Option (List ℕ)) → Answers P cells o → lineAnswer bs cells ≡ o
-    one-answer o a = answer-only P cells (lineAnswer bs cells) o (answer-for (placements bs (length cells)) (placements-exact bs (length cells)) cells) a
+    one-answer o a = answer-only P cells (lineAnswer bs cells) o
+        (answer-for (placements bs (length cells)) (placements-exact bs (length cells)) cells) a
 
     -- more than there is room for: no placement agrees
     pub over-told : {work′ : List ℕ} → n < space (held ys) (length sizes) → 64 ≤ length work′ → Tried n bs xs false work′
@@ -176,7 +186,8 @@ module _ {n : ℕ} {sizes colours xs memo work ys : List ℕ} (S : Solvable n si
                 };
             whole = λ i k s.
                 let h : i < n = omega (arith, has-inside (s .by) i k (s .gives), s .ok .member .long, cells-long) in
-                rw (getD-take n work′ i 0 h) (t .answer .covered (λ j. getD (s .by) j 0) (to-solution (s .ok)) i (omega (arith, length-is)) k (s .gives));
+                rw (getD-take n work′ i 0 h)
+                (t .answer .covered (λ j. getD (s .by) j 0) (to-solution (s .ok)) i (omega (arith, length-is)) k (s .gives));
           }
 
       told : (r : Bool) → Tell L (Solution L) (L .length) r work₀ memo′ work′ → Answers P cells (outcome r (take n work′))
@@ -202,7 +213,8 @@ module _ {n : ℕ} {sizes colours xs memo work ys : List ℕ} (S : Solvable n si
             ∙ ap (λ x. x - 1) (sym (space-as (held ys) L (length sizes) size-same colour-same b (omega (arith, count-is))));
       }
 
-      pub asked : {memo′ : List ℕ} {p b : ℕ} → p ≡ n → b ≡ length sizes → length memo′ ≡ length memo → Cleared memo′ ((length sizes + 1) * 64) → Ask L p b memo′ work
+      pub asked : {memo′ : List ℕ} {p b : ℕ} → p ≡ n → b ≡ length sizes → length memo′ ≡ length memo → Cleared memo′ ((length sizes + 1) * 64)
+          → Ask L p b memo′ work
       unfolding Rest Cleared
       asked {memo′} {p} {b} pe be m C = record {
         legal = legal-line;
@@ -214,5 +226,12 @@ module _ {n : ℕ} {sizes colours xs memo work ys : List ℕ} (S : Solvable n si
           known = λ at d l k h. absurd (h (C (entryOf at d) (omega (arith, count-is, length-is, S .fits .short))));
           sound = λ i l k h. absurd (not-has-zero (rw (S .clean, getD-replicate {A = ℕ} 64 i 0 0 (omega (arith, length-is, S .fits .short))) at h));
         };
-        rest = λ g f. (g, (subst (λ (x : ℕ). Fits L x (L .count) g) (pe ∙ sym length-is) (subst (λ (y : ℕ). Fits L p y g) (be ∙ sym count-is) f), λ i l. refl));
+        rest = λ g f. (
+          g,
+          (
+            subst (λ (x : ℕ). Fits L x (L .count) g) (pe ∙ sym length-is)
+                (subst (λ (y : ℕ). Fits L p y g) (be ∙ sym count-is) f),
+            λ i l. refl,
+          ),
+        );
       }

@@ -2,9 +2,9 @@
 // The line is held in one array, so that few arguments go through the cycle: see `Held` in specs/Filling.antt.
 ghost use mathlib.Core.Path.{_≡_};
 ghost use Prim.Native.Nat.{ℕ, _+_, _*_, _-_, _^_, _≤_, _<_};
-ghost use lib.Dec.{T, eqb};
+ghost use lib.Dec.{eqb};
 ghost use lib.IntN.{pos, subℕ};
-ghost use lib.ListN.{length, getD};
+ghost use lib.ListN.{length};
 ghost use Rattle.rules.specs.Colour.{canTake};
 ghost use Rattle.line.specs.Filling.{held, pick, trails, Fits};
 ghost use Rattle.line.specs.Steps.{Decides, cellsTo, AllTake, Lies, Added, shade, stopOf, Ask, Tell, EndsBlank, EndsBlock};

@@ -4,16 +4,16 @@ use mathlib.Core.Logic.{_⊎_, inl, inr, _≢_}
 use mathlib.Core.List.{List, [], _∷_}
 use Prim.Native.Nat.{ℕ, zero, suc, _+_, _*_, _/_, _%_, _≤_, _<_}
 use native.Mathlib.Nat.{add-zero, zero-add, not-suc-le-zero, le-of-suc-le-suc, mul-le-mul-right}
-use native.Mathlib.Decide.{decLt, ℕ-discrete}
+use native.Mathlib.Decide.{ℕ-discrete}
 use native.Mathlib.Omega.{arith}
 use lib.Arith.{digits-div, digits-mod, digits-lt}
-use lib.ListN.{length, getD, set, length-set, List·getD-eq-default, take, drop, length-take, length-drop}
+use lib.ListN.{length, getD, set, length-set, take, drop, length-take, length-drop}
 use lib.Seq.{getD-set-same, getD-set-other, ext-getD, getD-take, getD-drop}
 use Rattle.rules.specs.Colour.{Has}
 use Rattle.rules.specs.Answer.{Within}
 use Rattle.rules.specs.declared.LinePosition.{LinePosition}
 use Rattle.rules.specs.Board.{row, len, On, place, tabulate, lineOf, put, store}
-use Rattle.rules.proofs.Colours.{not-has-zero, has-inside}
+use Rattle.rules.proofs.Colours.{has-inside}
 use Rattle.rules.specs.declared.LinePosition.the-variants.{Row, Column}
 
 -- ---- lists

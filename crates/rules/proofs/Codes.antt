@@ -9,7 +9,7 @@ use borrow.Author.Tests.{ne-eqb, eqb-true, eqb-false, not-true, not-false}
 use lib.Dec.{eqb}
 use lib.ListN.{length, getD}
 use Rattle.rules.specs.Colour.{Colour}
-use Rattle.rules.specs.Block.{_of_, illegalColour}
+use Rattle.rules.specs.Block.{illegalColour}
 use Rattle.rules.specs.Answer.{Proper}
 use Rattle.rules.specs.Ranges.{anyOf}
 use Rattle.rules.specs.Clue.{badCode, Different, otherCode, mixedCode}

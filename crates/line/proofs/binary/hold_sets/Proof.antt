@@ -1,7 +1,7 @@
 -- `binary::hold_sets` meets its contract: what is left to write gives the whole.
 use Prim.Native.Nat.{_+_, _-_, _≤_}
 use mathlib.Core.Path.{sym, ap, _∙_}
-use mathlib.Core.List.{List, _∷_, map}
+use mathlib.Core.List.{_∷_, map}
 use lib.ListN.{length, drop, drop-of-length-le}
 use Rattle.loops.proofs.Going.{Going, going-start, going-put, going-done}
 use Rattle.loops.proofs.Stores.{drop-step}
@@ -10,7 +10,6 @@ use borrow.Author.Needs.{needs}
 use native.Mathlib.Omega.{arith}
 use Rattle.line.proofs.binary.hold_sets.Statement.{statement}
 use Rattle.line.proofs.binary.hold_sets.Tie as tie
-use Rattle.line.proofs.binary.set_of.Reads as set-of-reads
 
 abbrev Inv-loop : tie.InvT-loop
 Inv-loop cells line₀ i₀ line i = (i ≤ length cells) × Going line₀ 0 (map setOf cells) line i (map setOf (drop i cells))
@@ -44,8 +43,14 @@ loop-less c = search needs
 
 loop-again : tie.Need-loop-again Inv-loop μ-loop
 loop-again c =
-    let loop = c .before .before .before .loop in
-    (omega arith, going-put (loop .inv .1) (ap (map setOf) (drop-step _ (loop .i) (c .before .before .loop-test .taken)) ∙ ap (λ x. x ∷ map setOf (drop (loop .i + 1) (c .before .before .before .before .before .args .cells .now))) (sym (c .set-of .ensures))))
+    let loop-test = c .before .before .loop-test in
+    let args = c .before .before .before .before .before .args in
+    let loop = c .before .before .before .loop in (
+      omega arith,
+      going-put (loop .inv .1)
+          (ap (map setOf) (drop-step _ (loop .i) (loop-test .taken))
+          ∙ ap (λ x. x ∷ map setOf (drop (loop .i + 1) (args .cells .now))) (sym (c .set-of .ensures))),
+    )
 
 returns : tie.Need-returns Inv-loop μ-loop
 returns c = going-done (c .before .loop .inv .1) (ap (map setOf) (drop-of-length-le _ (c .loop-test .left))) .holds

@@ -1,8 +1,7 @@
 -- `binary::set_of` meets its contract.
-use mathlib.Core.Path.{_≡_, refl, sym}
+use mathlib.Core.Path.{_≡_, refl}
 use Prim.Native.Nat.{ℕ, zero, suc}
 use Rattle.rules.specs.Binary.{setOf}
-use borrow.Author.Needs.{needs}
 use Rattle.line.proofs.binary.set_of.Statement.{statement}
 use Rattle.line.proofs.binary.set_of.Tie as tie
 

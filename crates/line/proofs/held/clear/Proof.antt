@@ -21,7 +21,9 @@ unfolding Cleared
 loop-holds c = (omega arith, refl, λ k h. absurd (omega arith))
 
 slice-write-memo : tie.Need-slice-write-memo Inv-loop μ-loop
-slice-write-memo c = omega (arith, c .before .loop .inv .1, c .before .before .pre)
+slice-write-memo c =
+    let pre = c .before .before .pre in
+    omega (arith, c .before .loop .inv .1, pre)
 
 add-i : tie.Need-add-i Inv-loop μ-loop
 add-i c = search needs
@@ -32,12 +34,13 @@ loop-less c = search needs
 loop-again : tie.Need-loop-again Inv-loop μ-loop
 unfolding Cleared
 loop-again c =
+    let pre = c .before .before .pre in
     let loop = c .before .loop in (
       omega arith,
       length-set (loop .memo) (loop .i) 0 ∙ loop .inv .1,
       λ k h. below? k (loop .i)
           (λ l. getD-set-other (loop .memo) (loop .i) k 0 0 (λ e. omega arith) ∙ loop .inv .2 k l)
-          (λ l. let e : k ≡ loop .i = omega arith in rw e (getD-set-same (loop .memo) (loop .i) 0 0 (omega (arith, loop .inv .1, c .before .before .pre)))),
+          (λ l. let e : k ≡ loop .i = omega arith in rw e (getD-set-same (loop .memo) (loop .i) 0 0 (omega (arith, loop .inv .1, pre)))),
     )
 
 same-length : tie.Need-same-length Inv-loop μ-loop
@@ -45,8 +48,9 @@ same-length c = c .before .loop .inv .1
 
 returns : tie.Need-returns Inv-loop μ-loop
 returns c =
+    let args = c .before .before .args in
     let loop = c .before .loop in
-    let e : loop .i ≡ c .before .before .args .n = omega arith in
+    let e : loop .i ≡ args .n = omega arith in
     rw e at (loop .inv .2)
 
 pub clear-spec : {M : Type 1} → statement M

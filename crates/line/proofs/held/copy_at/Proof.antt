@@ -32,7 +32,9 @@ mul-line-2 : tie.Need-mul-line-2 Inv-loop μ-loop
 mul-line-2 c = search needs
 
 element-write-line : tie.Need-element-write-line Inv-loop μ-loop
-element-write-line c = omega (arith, c .before .before .before .pre .0)
+element-write-line c =
+    let pre = c .before .before .before .pre in
+    omega (arith, pre .0)
 
 add-i : tie.Need-add-i Inv-loop μ-loop
 add-i c = search needs

@@ -7,7 +7,6 @@ use Rattle.line.proofs.Stored.{holds}
 use borrow.Author.Needs.{needs}
 use Rattle.line.proofs.held.hold_blocks.Statement.{statement}
 use Rattle.line.proofs.held.hold_blocks.Tie as tie
-use Rattle.line.proofs.held.copy_at.Reads as copy-at-reads
 
 copy-at-requires : tie.Need-copy-at-requires
 copy-at-requires c κs = search needs
@@ -15,8 +14,11 @@ copy-at-requires c κs = search needs
 copy-at-requires-2 : tie.Need-copy-at-requires-2
 copy-at-requires-2 c κs =
     let args = c .before .before .before .before .before .args in
-    let p = c .before .before .before .before .before .pre in
-    (omega (arith, p .few, p .paired), omega (arith, p .long, ap length (c .before .copy-at .ensures) ∙ length-sets (args .line .now) 64 (args .sizes .now)))
+    let p = c .before .before .before .before .before .pre in (
+      omega (arith, p .few, p .paired),
+      omega
+          (arith, p .long, ap length (c .before .copy-at .ensures) ∙ length-sets (args .line .now) 64 (args .sizes .now)),
+    )
 
 add-line : tie.Need-add-line
 add-line c = search needs
@@ -43,7 +45,10 @@ element-write-line-4 : tie.Need-element-write-line-4
 element-write-line-4 c = search needs
 
 returns : tie.Need-returns
-returns c = rw (c .copy-at2 .ensures, c .before .before .copy-at .ensures) (holds (c .before .before .before .before .before .before .pre))
+returns c =
+    let copy-at = c .before .before .copy-at in
+    let pre = c .before .before .before .before .before .before .pre in
+    rw (c .copy-at2 .ensures, copy-at .ensures) (holds (pre))
 
 pub hold-blocks-spec : {M : Type 1} → statement M
 hold-blocks-spec =

@@ -8,22 +8,22 @@ use Rattle.line.proofs.Whole.{summable, over-told, asked, solver-told}
 use borrow.Author.Needs.{needs}
 use Rattle.line.proofs.held.try_solve.Statement.{statement}
 use Rattle.line.proofs.held.try_solve.Tie as tie
-use Rattle.line.proofs.held.calc_block_sum.Reads as calc-block-sum-reads
-use Rattle.line.proofs.held.clear.Reads as clear-reads
-use Rattle.line.proofs.held.hold_blocks.Reads as hold-blocks-reads
-use Rattle.line.proofs.solver.fill_matrix.Reads as fill-matrix-reads
 
 hold-blocks-requires : tie.Need-hold-blocks-requires
 hold-blocks-requires c κs = search needs
 
 calc-block-sum-requires : tie.Need-calc-block-sum-requires
-calc-block-sum-requires c κs = summable (c .before .before .before .before .before .before .pre) (c .before .hold-blocks .ensures)
+calc-block-sum-requires c κs =
+    let pre = c .before .before .before .before .before .before .pre in
+    summable (pre) (c .before .hold-blocks .ensures)
 
 returns : tie.Need-returns
 returns c =
+    let hold-blocks = c .before .before .before .hold-blocks in
     let p = c .before .before .before .before .before .before .before .before .pre in
     let s = c .before .calc-block-sum .ensures in
-    over-told p (c .before .before .before .hold-blocks .ensures) (s .kept) (s .over (not-true _ (c .if1 .taken))) (omega (arith, ap length (p .clean), length-replicate {A = ℕ} 64 0))
+    over-told p (hold-blocks .ensures) (s .kept) (s .over (not-true _ (c .if1 .taken)))
+    (omega (arith, ap length (p .clean), length-replicate {A = ℕ} 64 0))
 
 add-clear : tie.Need-add-clear
 add-clear c = search needs
@@ -39,20 +39,27 @@ sub-fill-matrix c = search needs
 
 fill-matrix-requires : tie.Need-fill-matrix-requires
 fill-matrix-requires c κs =
+    let args = c .before .before .before .before .before .before .before .before .before .before .before .before .before .before .before .args in
+    let hold-blocks = c .before .before .before .before .before .before .before .before .before .before .hold-blocks in
+    let if1 = c .before .before .before .before .before .before .before .if1 in
+    let clear = c .before .before .before .before .before .clear in
     let p = c .before .before .before .before .before .before .before .before .before .before .before .before .before .before .before .pre in
     let s = c .before .before .before .before .before .before .before .before .calc-block-sum .ensures in
-    let e : c .before .before .before .before .before .before .before .before .before .before .before .before .before .before .before .args .length - 1 + 1 ≡ c .before .before .before .before .before .before .before .before .before .before .before .before .before .before .before .args .length = omega (arith, p .some) in
-    asked p (c .before .before .before .before .before .before .before .before .before .before .hold-blocks .ensures) (s .kept) (s .sums (not-false _ (c .before .before .before .before .before .before .before .if1 .left))) e refl (c .before .before .before .before .before .clear .kept .0) (c .before .before .before .before .before .clear .ensures)
+    let e : args .length - 1 + 1 ≡ args .length = omega (arith, p .some) in
+    asked p (hold-blocks .ensures) (s .kept) (s .sums (not-false _ (if1 .left))) e refl (clear .kept .0) (clear .ensures)
 
 same-length : tie.Need-same-length
 same-length c = search needs
 
 returns-2 : tie.Need-returns-2
 returns-2 c =
+    let args = c .before .before .before .before .before .before .before .before .before .before .before .before .before .before .before .before .before .before .args in
+    let hold-blocks = c .before .before .before .before .before .before .before .before .before .before .before .before .before .hold-blocks in
+    let fill-matrix = c .before .before .fill-matrix in
     let p = c .before .before .before .before .before .before .before .before .before .before .before .before .before .before .before .before .before .before .pre in
     let s = c .before .before .before .before .before .before .before .before .before .before .before .calc-block-sum .ensures in
-    let e : c .before .before .before .before .before .before .before .before .before .before .before .before .before .before .before .before .before .before .args .length - 1 + 1 ≡ c .before .before .before .before .before .before .before .before .before .before .before .before .before .before .before .before .before .before .args .length = omega (arith, p .some) in
-    solver-told p (c .before .before .before .before .before .before .before .before .before .before .before .before .before .hold-blocks .ensures) (s .kept) e refl (c .before .before .fill-matrix .result) (c .before .before .fill-matrix .ensures)
+    let e : args .length - 1 + 1 ≡ args .length = omega (arith, p .some) in
+    solver-told p (hold-blocks .ensures) (s .kept) e refl (fill-matrix .result) (fill-matrix .ensures)
 
 pub try-solve-spec : {M : Type 1} → statement M
 try-solve-spec =

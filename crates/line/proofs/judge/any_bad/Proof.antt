@@ -27,7 +27,9 @@ shared-slice-read-if1 : tie.Need-shared-slice-read-if1 Inv-loop μ-loop
 shared-slice-read-if1 c = search needs
 
 returns : tie.Need-returns Inv-loop μ-loop
-returns c = let loop = c .before .before .before .loop in sym (loop .inv .1 ∙ any-step _ _ (loop .i) (c .before .before .loop-test .taken) ∙ simp (lt-ltb _ _ (c .if1 .taken)))
+returns c =
+    let loop-test = c .before .before .loop-test in
+    let loop = c .before .before .before .loop in sym (loop .inv .1 ∙ any-step _ _ (loop .i) (loop-test .taken) ∙ simp (lt-ltb _ _ (c .if1 .taken)))
 
 add-i : tie.Need-add-i Inv-loop μ-loop
 add-i c = search needs
@@ -36,7 +38,10 @@ loop-less : tie.Need-loop-less Inv-loop μ-loop
 loop-less c = search needs
 
 loop-again : tie.Need-loop-again Inv-loop μ-loop
-loop-again c = let loop = c .before .before .before .loop in (omega arith, loop .inv .1 ∙ any-step _ _ (loop .i) (c .before .before .loop-test .taken) ∙ simp (le-ltb _ _ (c .if1 .left)))
+loop-again c =
+    let loop-test = c .before .before .loop-test in
+    let loop = c .before .before .before .loop in
+    (omega arith, loop .inv .1 ∙ any-step _ _ (loop .i) (loop-test .taken) ∙ simp (le-ltb _ _ (c .if1 .left)))
 
 returns-2 : tie.Need-returns-2 Inv-loop μ-loop
 returns-2 c = sym (c .before .loop .inv .1 ∙ any-end _ _ _ (c .loop-test .left))

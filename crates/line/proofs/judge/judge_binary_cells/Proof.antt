@@ -7,8 +7,6 @@ use Rattle.line.specs.Calls.{cellRules}
 use borrow.Author.Needs.{needs}
 use Rattle.line.proofs.judge.judge_binary_cells.Statement.{statement}
 use Rattle.line.proofs.judge.judge_binary_cells.Tie as tie
-use Rattle.line.proofs.judge.any_bad.Reads as any-bad-reads
-use Rattle.rules.proofs.judge.judge_black.Reads as judge-black-reads
 
 judge-black-requires : tie.Need-judge-black-requires
 judge-black-requires c κs = search needs
@@ -24,21 +22,29 @@ any-bad-requires c κs = search needs
 
 returns : tie.Need-returns
 returns c =
+    let judge-black = c .before .before .before .before .judge-black in
+    let enum-told = c .before .before .enum-told in
     let args = c .before .before .before .before .before .before .before .args in
     sym
-    (append-fine (blockRules (binary (args .sizes .now)) (args .roomy)) (cellRules (args .cells .now)) (sym (c .before .before .before .before .judge-black .ensures) ∙ c .before .before .enum-told .given .1)
+    (append-fine (blockRules (binary (args .sizes .now)) (args .roomy)) (cellRules (args .cells .now))
+    (sym (judge-black .ensures) ∙ enum-told .given .1)
     ∙ rw (sym (c .before .any-bad .ensures) ∙ c .if1 .taken))
 
 returns-2 : tie.Need-returns-2
 returns-2 c =
+    let judge-black = c .before .before .before .judge-black in
     let args = c .before .before .before .before .before .before .args in
-    sym (append-bad (blockRules (binary (args .sizes .now)) (args .roomy)) (cellRules (args .cells .now)) (sym (c .before .before .before .judge-black .ensures) ∙ c .before .v .given .1))
+    sym (append-bad (blockRules (binary (args .sizes .now)) (args .roomy)) (cellRules (args .cells .now))
+    (sym (judge-black .ensures) ∙ c .before .v .given .1))
 
 returns-3 : tie.Need-returns-3
 returns-3 c =
+    let judge-black = c .before .before .before .before .judge-black in
+    let enum-told = c .before .before .enum-told in
     let args = c .before .before .before .before .before .before .before .args in
     sym
-    (append-fine (blockRules (binary (args .sizes .now)) (args .roomy)) (cellRules (args .cells .now)) (sym (c .before .before .before .before .judge-black .ensures) ∙ c .before .before .enum-told .given .1)
+    (append-fine (blockRules (binary (args .sizes .now)) (args .roomy)) (cellRules (args .cells .now))
+    (sym (judge-black .ensures) ∙ enum-told .given .1)
     ∙ rw (sym (c .before .any-bad .ensures) ∙ c .if1 .left))
 
 pub judge-binary-cells-spec : {M : Type 1} → statement M

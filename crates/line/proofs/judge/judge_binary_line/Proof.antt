@@ -9,9 +9,6 @@ use Rattle.line.specs.Calls.{roomFor, cellRules}
 use borrow.Author.Needs.{needs}
 use Rattle.line.proofs.judge.judge_binary_line.Statement.{statement}
 use Rattle.line.proofs.judge.judge_binary_line.Tie as tie
-use Rattle.line.proofs.judge.has_room.Reads as has-room-reads
-use Rattle.line.proofs.judge.judge_binary_cells.Reads as judge-binary-cells-reads
-use Rattle.rules.proofs.judge.judge_length.Reads as judge-length-reads
 
 judge-length-requires : tie.Need-judge-length-requires
 judge-length-requires c κs = search needs
@@ -30,21 +27,24 @@ judge-binary-cells-requires c κs = search needs
 
 returns : tie.Need-returns
 returns c =
+    let judge-length = c .before .before .before .judge-length in
     let args = c .before .before .before .before .before .before .args in
     let n = length (args .cells .now) in
     sym
     (append-bad (lengthRules n) (blockRules (binary (args .sizes .now)) (roomFor n (args .memo) (args .out)) ++ cellRules (args .cells .now))
-    (sym (c .before .before .before .judge-length .ensures) ∙ c .before .v .given .1))
+    (sym (judge-length .ensures) ∙ c .before .v .given .1))
 
 returns-2 : tie.Need-returns-2
 returns-2 c =
+    let judge-length = c .before .before .before .before .judge-length in
+    let enum-told = c .before .before .enum-told in
     let args = c .before .before .before .before .before .before .before .args in
     let n = length (args .cells .now) in
     let b = binary (args .sizes .now) in
     c .judge-binary-cells .ensures ∙ ap (λ t. verdict (blockRules b t ++ cellRules (args .cells .now))) (c .before .has-room .ensures)
     ∙ sym
     (append-fine (lengthRules n) (blockRules b (roomFor n (args .memo) (args .out)) ++ cellRules (args .cells .now))
-    (sym (c .before .before .before .before .judge-length .ensures) ∙ c .before .before .enum-told .given .1))
+    (sym (judge-length .ensures) ∙ enum-told .given .1))
 
 pub judge-binary-line-spec : {M : Type 1} → statement M
 judge-binary-line-spec =

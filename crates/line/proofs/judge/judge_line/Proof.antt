@@ -8,9 +8,6 @@ use Rattle.line.specs.Calls.{roomFor}
 use borrow.Author.Needs.{needs}
 use Rattle.line.proofs.judge.judge_line.Statement.{statement}
 use Rattle.line.proofs.judge.judge_line.Tie as tie
-use Rattle.line.proofs.judge.has_room.Reads as has-room-reads
-use Rattle.rules.proofs.judge.judge_blocks.Reads as judge-blocks-reads
-use Rattle.rules.proofs.judge.judge_length.Reads as judge-length-reads
 
 judge-length-requires : tie.Need-judge-length-requires
 judge-length-requires c κs = search needs
@@ -29,17 +26,22 @@ judge-blocks-requires c κs = search needs
 
 returns : tie.Need-returns
 returns c =
+    let judge-length = c .before .before .before .judge-length in
     let args = c .before .before .before .before .before .before .args in
     sym
-    (append-bad (lengthRules (args .length)) (blockRules (coloured (args .sizes .now) (args .colours .now)) (roomFor (args .length) (args .memo) (args .out)))
-    (sym (c .before .before .before .judge-length .ensures) ∙ c .before .v .given .1))
+    (append-bad (lengthRules (args .length))
+    (blockRules (coloured (args .sizes .now) (args .colours .now)) (roomFor (args .length) (args .memo) (args .out)))
+    (sym (judge-length .ensures) ∙ c .before .v .given .1))
 
 returns-2 : tie.Need-returns-2
 returns-2 c =
+    let judge-length = c .before .before .before .before .judge-length in
+    let enum-told = c .before .before .enum-told in
     let args = c .before .before .before .before .before .before .before .args in
     let b = coloured (args .sizes .now) (args .colours .now) in
     c .judge-blocks .ensures ∙ ap (λ t. verdict (blockRules b t)) (c .before .has-room .ensures)
-    ∙ sym (append-fine (lengthRules (args .length)) (blockRules b (roomFor (args .length) (args .memo) (args .out))) (sym (c .before .before .before .before .judge-length .ensures) ∙ c .before .before .enum-told .given .1))
+    ∙ sym (append-fine (lengthRules (args .length)) (blockRules b (roomFor (args .length) (args .memo) (args .out)))
+    (sym (judge-length .ensures) ∙ enum-told .given .1))
 
 pub judge-line-spec : {M : Type 1} → statement M
 judge-line-spec =

@@ -39,11 +39,12 @@ loop-less c = search needs
 
 loop-again : tie.Need-loop-again Inv-loop μ-loop
 loop-again c =
+    let pre = c .before .before .before .pre in
     let loop = c .before .before .loop in
     let args = c .before .before .before .args in (
       omega (arith, loop .inv .1 .long),
       going-put (loop .inv .1)
-          (take-step (length (args .out .now)) (args .work .now) (loop .i) (omega (arith, loop .inv .1 .long)) (omega (arith, c .before .before .before .pre))),
+          (take-step (length (args .out .now)) (args .work .now) (loop .i) (omega (arith, loop .inv .1 .long)) (omega (arith, pre))),
     )
 
 same-length : tie.Need-same-length Inv-loop μ-loop
@@ -51,11 +52,12 @@ same-length c = c .before .loop .inv .1 .long
 
 returns : tie.Need-returns Inv-loop μ-loop
 returns c =
+    let pre = c .before .before .pre in
     let loop = c .before .loop in
     let args = c .before .before .args in
     let n = length (args .out .now) in
-    going-done (loop .inv .1) (take-end n (args .work .now) (loop .i) (omega (arith, loop .inv .1 .long)) (omega (arith, c .before .before .pre))) .holds
-    ∙ sets-whole (take n (args .work .now)) (args .out .now) (length-take-le n (args .work .now) (omega (arith, c .before .before .pre)))
+    going-done (loop .inv .1) (take-end n (args .work .now) (loop .i) (omega (arith, loop .inv .1 .long)) (omega (arith, pre))) .holds
+    ∙ sets-whole (take n (args .work .now)) (args .out .now) (length-take-le n (args .work .now) (omega (arith, pre)))
 
 pub copy-out-spec : {M : Type 1} → statement M
 copy-out-spec =

@@ -5,8 +5,6 @@ use Rattle.line.proofs.Told.{line-ready, solves-refused, solves-done, s
 use borrow.Author.Needs.{needs}
 use Rattle.line.proofs.multicolor.solve.Statement.{statement}
 use Rattle.line.proofs.multicolor.solve.Tie as tie
-use Rattle.line.proofs.judge.judge_line.Reads as judge-line-reads
-use Rattle.line.proofs.multicolor.solve_legal.Reads as solve-legal-reads
 
 judge-line-requires : tie.Need-judge-line-requires
 judge-line-requires c κs = search needs
@@ -19,9 +17,11 @@ enum-told c = search needs
 
 solve-legal-requires : tie.Need-solve-legal-requires
 solve-legal-requires c κs =
+    let judge-line = c .before .before .before .before .judge-line in
+    let enum-told = c .before .before .enum-told in
     let args = c .before .before .before .before .before .before .before .before .before .before .args in
     line-ready (args .cells .now) (coloured (args .sizes .now) (args .colours .now)) (args .memo .now) (args .out .now)
-    (sym (c .before .before .before .before .judge-line .ensures) ∙ c .before .before .enum-told .given .1)
+    (sym (judge-line .ensures) ∙ enum-told .given .1)
 
 same-length : tie.Need-same-length
 same-length c = search needs
@@ -30,10 +30,16 @@ same-length-2 : tie.Need-same-length-2
 same-length-2 c = search needs
 
 returns : tie.Need-returns
-returns c = solves-done (sym (c .before .before .before .before .before .before .before .before .before .before .judge-line .ensures) ∙ c .before .before .before .before .before .before .before .before .enum-told .given .1) (c .before .before .before .before .before .solve-legal .kept .1 .1 .1 .0) (rw (c .if1 .taken) at (c .before .before .before .before .before .solve-legal .ensures))
+returns c =
+    let judge-line = c .before .before .before .before .before .before .before .before .before .before .judge-line in
+    let enum-told = c .before .before .before .before .before .before .before .before .enum-told in
+    let solve-legal = c .before .before .before .before .before .solve-legal in
+    solves-done (sym (judge-line .ensures) ∙ enum-told .given .1) (solve-legal .kept .1 .1 .1 .0) (rw (c .if1 .taken) at (solve-legal .ensures))
 
 returns-2 : tie.Need-returns-2
-returns-2 c = solves-refused (sym (c .before .before .before .judge-line .ensures) ∙ c .before .v .given .1)
+returns-2 c =
+    let judge-line = c .before .before .before .judge-line in
+    solves-refused (sym (judge-line .ensures) ∙ c .before .v .given .1)
 
 same-length-3 : tie.Need-same-length-3
 same-length-3 c = search needs
@@ -42,7 +48,11 @@ same-length-4 : tie.Need-same-length-4
 same-length-4 c = search needs
 
 returns-3 : tie.Need-returns-3
-returns-3 c = solves-none (sym (c .before .before .before .before .before .before .before .before .before .before .judge-line .ensures) ∙ c .before .before .before .before .before .before .before .before .enum-told .given .1) (c .before .before .before .before .before .solve-legal .kept .1 .1 .1 .0) (rw (c .if1 .left) at (c .before .before .before .before .before .solve-legal .ensures))
+returns-3 c =
+    let judge-line = c .before .before .before .before .before .before .before .before .before .before .judge-line in
+    let enum-told = c .before .before .before .before .before .before .before .before .enum-told in
+    let solve-legal = c .before .before .before .before .before .solve-legal in
+    solves-none (sym (judge-line .ensures) ∙ enum-told .given .1) (solve-legal .kept .1 .1 .1 .0) (rw (c .if1 .left) at (solve-legal .ensures))
 
 pub solve-spec : {M : Type 1} → statement M
 solve-spec =

@@ -135,20 +135,22 @@ unfolding SumsTo
 fill-matrix-returns t c =
     let p = c .before .before .before .before .pre .1 in
     let d = c .before .before .before .before .args in
-    no-branch _ _ (p .good) (λ f F. omega (arith, c .before .wide .ensures .0, space-le _ (d .block) (F .shows), p .legal .sums (d .block) (p .block)))
+    no-branch _ _ (p .good)
+    (λ f F. omega (arith, c .before .wide .ensures .0, space-le _ (d .block) (F .shows), p .legal .sums (d .block) (p .block)))
 
 fill-matrix-fill-matrix-blank-requires : (t : ℕ) → fill-matrix-lts.Need-fill-matrix-blank-requires (fill-calls t) (fill-matrix-at t) fill-matrix.Post
 fill-matrix-fill-matrix-blank-requires t c κs = let p = c .before .before .before .before .before .before .pre in (omega (arith, p .0), p .1)
 
 fill-matrix-fill-matrix-color-requires : (t : ℕ) → fill-matrix-lts.Need-fill-matrix-color-requires (fill-calls t) (fill-matrix-at t) fill-matrix.Post
 fill-matrix-fill-matrix-color-requires t c κs =
+    let fill-matrix-blank = c .before .before .before .before .fill-matrix-blank in
     let p = c .before .before .before .before .before .before .before .before .before .before .before .pre in (
       omega (arith, p .0),
       record {
         legal = p .1 .legal;
         here = p .1 .here;
         block = p .1 .block;
-        good = c .before .before .before .before .fill-matrix-blank .ensures .good;
+        good = fill-matrix-blank .ensures .good;
         rest = p .1 .rest;
       },
     )
@@ -157,38 +159,56 @@ fill-matrix-same-length : (t : ℕ) → fill-matrix-lts.Need-same-length (fill-c
 fill-matrix-same-length t c = search needs
 
 fill-matrix-returns-2 : (t : ℕ) → fill-matrix-lts.Need-returns-2 (fill-calls t) (fill-matrix-at t) fill-matrix.Post
-fill-matrix-returns-2 t c = let d = c .before .before .before .before .before .before .before .before .before .before .before .before .before .before .args in both _ (d .position) (d .block) (c .before .before .before .before .before .before .before .fill-matrix-blank .ensures) (c .before .before .fill-matrix-color .ensures)
+fill-matrix-returns-2 t c =
+    let fill-matrix-blank = c .before .before .before .before .before .before .before .fill-matrix-blank in
+    let fill-matrix-color = c .before .before .fill-matrix-color in
+    let d = c .before .before .before .before .before .before .before .before .before .before .before .before .before .before .args in both _
+    (d .position) (d .block) (fill-matrix-blank .ensures) (fill-matrix-color .ensures)
 
 fill-matrix-blank-mul-can-be : (t : ℕ) → fill-matrix-blank-lts.Need-mul-can-be (blank-calls t) (fill-matrix-blank-at t) fill-matrix-blank.Post
 fill-matrix-blank-mul-can-be t c = let p = c .before .pre .1 in omega (arith, p .here, p .legal .short)
 
-fill-matrix-blank-element-copy-out-can-be : (t : ℕ) → fill-matrix-blank-lts.Need-element-copy-out-can-be (blank-calls t) (fill-matrix-blank-at t) fill-matrix-blank.Post
+fill-matrix-blank-element-copy-out-can-be : (t : ℕ)
+    → fill-matrix-blank-lts.Need-element-copy-out-can-be (blank-calls t) (fill-matrix-blank-at t) fill-matrix-blank.Post
 fill-matrix-blank-element-copy-out-can-be t c = let p = c .before .pre .1 in omega (arith, p .here, p .legal .short)
 
-fill-matrix-blank-can-be-requires : (t : ℕ) → fill-matrix-blank-lts.Need-can-be-requires (blank-calls t) (fill-matrix-blank-at t) fill-matrix-blank.Post
+fill-matrix-blank-can-be-requires : (t : ℕ)
+    → fill-matrix-blank-lts.Need-can-be-requires (blank-calls t) (fill-matrix-blank-at t) fill-matrix-blank.Post
 fill-matrix-blank-can-be-requires t c κs = search needs
 
 fill-matrix-blank-returns : (t : ℕ) → fill-matrix-blank-lts.Need-returns (blank-calls t) (fill-matrix-blank-at t) fill-matrix-blank.Post
-fill-matrix-blank-returns t c = no-branch _ _ (c .before .before .before .before .pre .1 .good) (λ f E. told (c .before .can-be .ensures) .no (not-true _ (c .if1 .taken)) (E .takes))
+fill-matrix-blank-returns t c =
+    let pre = c .before .before .before .before .pre in
+    no-branch _ _ (pre .1 .good) (λ f E. told (c .before .can-be .ensures) .no (not-true _ (c .if1 .taken)) (E .takes))
 
-fill-matrix-blank-left-of-requires : (t : ℕ) → fill-matrix-blank-lts.Need-left-of-requires (blank-calls t) (fill-matrix-blank-at t) fill-matrix-blank.Post
+fill-matrix-blank-left-of-requires : (t : ℕ)
+    → fill-matrix-blank-lts.Need-left-of-requires (blank-calls t) (fill-matrix-blank-at t) fill-matrix-blank.Post
 fill-matrix-blank-left-of-requires t c κs = let p = c .before .before .before .before .pre .1 in omega (arith, p .here, p .legal .short)
 
 -- the line, and the blank as a piece of it, where the cell can be blank
 abbrev blank-line : (t : ℕ) → fill-matrix-blank-lts.Else1 (blank-calls t) (fill-matrix-blank-at t) fill-matrix-blank.Post → Line
-blank-line t c = held (c .before .before .before .before .args .line .now)
+blank-line t c =
+    let args = c .before .before .before .before .args in
+    held (args .line .now)
 
 blank-found : (t : ℕ) (c : fill-matrix-blank-lts.Else1 (blank-calls t) (fill-matrix-blank-at t) fill-matrix-blank.Post)
-    → Piece (blank-line t c) (EndsBlank (blank-line t c) (c .before .before .before .before .args .position) (c .before .before .before .before .args .block)) (c .before .before .before .before .args .position) (c .before .before .before .before .args .block) (c .before .before .before .before .args .position + 1) (λ i. 1)
+    → Piece (blank-line t c)
+    (EndsBlank (blank-line t c) (c .before .before .before .before .args .position) (c .before .before .before .before .args .block))
+    (c .before .before .before .before .args .position) (c .before .before .before .before .args .block)
+    (c .before .before .before .before .args .position + 1) (λ i. 1)
 blank-found t c = blank-piece _ _ _ (told (c .before .can-be .ensures) .yes (not-false _ (c .if1 .left)))
 
 -- the position that is handed on has as many cells up to it as stand before this one
-blank-left : (t : ℕ) (c : fill-matrix-blank-lts.After-left-of (blank-calls t) (fill-matrix-blank-at t) fill-matrix-blank.Post) → cellsTo (toZ w64 (ofZ w64 (c .left-of .result))) ≡ c .before .before .before .before .before .args .position
+blank-left : (t : ℕ) (c : fill-matrix-blank-lts.After-left-of (blank-calls t) (fill-matrix-blank-at t) fill-matrix-blank.Post)
+    → cellsTo (toZ w64 (ofZ w64 (c .left-of .result))) ≡ c .before .before .before .before .before .args .position
 blank-left t c = passed (c .left-of .result) (c .left-of .ok) ∙ c .left-of .ensures
 
-fill-matrix-blank-solve-block-requires : (t : ℕ) → fill-matrix-blank-lts.Need-solve-block-requires (blank-calls t) (fill-matrix-blank-at t) fill-matrix-blank.Post
+fill-matrix-blank-solve-block-requires : (t : ℕ)
+    → fill-matrix-blank-lts.Need-solve-block-requires (blank-calls t) (fill-matrix-blank-at t) fill-matrix-blank.Post
 fill-matrix-blank-solve-block-requires t c κs =
-    let e = blank-left t (c .before .before) in
+    let after-left-of = c .before .before in
+    let else1 = c .before .before .before in
+    let e = blank-left t (after-left-of) in
     let p = c .before .before .before .before .before .before .before .pre in
     let d = c .before .before .before .before .before .before .before .args in (
       omega (arith, p .0, e),
@@ -197,7 +217,8 @@ fill-matrix-blank-solve-block-requires t c κs =
         here = omega (arith, p .1 .here, e);
         block = p .1 .block;
         good = p .1 .good;
-        rest = rw e (piece-rest (blank-line t (c .before .before .before)) (blank-found t (c .before .before .before)) (λ f E. blank-fits _ (d .position) (d .block) E) (p .1 .rest) (omega arith));
+        rest = rw e (piece-rest (blank-line t (else1)) (blank-found t (else1)) (λ f E. blank-fits _ (d .position) (d .block) E) (p .1 .rest)
+            (omega arith));
       },
     )
 
@@ -206,25 +227,38 @@ fill-matrix-blank-same-length t c = search needs
 
 fill-matrix-blank-returns-2 : (t : ℕ) → fill-matrix-blank-lts.Need-returns-2 (blank-calls t) (fill-matrix-blank-at t) fill-matrix-blank.Post
 fill-matrix-blank-returns-2 t c =
-    no-piece _ (blank-found t (c .before .before .before .before .before .before .before))
-    (rw (blank-left t (c .before .before .before .before .before .before), not-true (c .before .before .before .solve-block .result) (c .if2 .taken)) at (c .before .before .before .solve-block .ensures))
+    let else1 = c .before .before .before .before .before .before .before in
+    let after-left-of = c .before .before .before .before .before .before in
+    let solve-block = c .before .before .before .solve-block in
+    no-piece _ (blank-found t (else1))
+    (rw (blank-left t (after-left-of), not-true (solve-block .result) (c .if2 .taken)) at (solve-block .ensures))
 
-fill-matrix-blank-update-solved-requires : (t : ℕ) → fill-matrix-blank-lts.Need-update-solved-requires (blank-calls t) (fill-matrix-blank-at t) fill-matrix-blank.Post
-fill-matrix-blank-update-solved-requires t c κs = let p = c .before .before .before .before .before .before .before .before .before .before .before .before .pre .1 in (omega (arith, p .here, p .legal .short), c .before .before .before .before .solve-block .ensures .good .long)
+fill-matrix-blank-update-solved-requires : (t : ℕ)
+    → fill-matrix-blank-lts.Need-update-solved-requires (blank-calls t) (fill-matrix-blank-at t) fill-matrix-blank.Post
+fill-matrix-blank-update-solved-requires t c κs =
+    let solve-block = c .before .before .before .before .solve-block in
+    let p = c .before .before .before .before .before .before .before .before .before .before .before .before .pre .1 in
+    (omega (arith, p .here, p .legal .short), solve-block .ensures .good .long)
 
 fill-matrix-blank-same-length-2 : (t : ℕ) → fill-matrix-blank-lts.Need-same-length-2 (blank-calls t) (fill-matrix-blank-at t) fill-matrix-blank.Post
 fill-matrix-blank-same-length-2 t c = search needs
 
 fill-matrix-blank-returns-3 : (t : ℕ) → fill-matrix-blank-lts.Need-returns-3 (blank-calls t) (fill-matrix-blank-at t) fill-matrix-blank.Post
 fill-matrix-blank-returns-3 t c =
+    let else1 = c .before .before .before .before .before .before .before .before .before in
+    let after-left-of = c .before .before .before .before .before .before .before .before in
+    let solve-block = c .before .before .before .before .before .solve-block in
+    let if2 = c .before .before .if2 in
     let d = c .before .before .before .before .before .before .before .before .before .before .before .before .before .args in
     let p = c .before .before .before .before .before .before .before .before .before .before .before .before .before .pre .1 in
-    piece (blank-line t (c .before .before .before .before .before .before .before .before .before)) (blank-found t (c .before .before .before .before .before .before .before .before .before)) (λ f E. blank-fits _ (d .position) (d .block) E) (p .rest) (omega arith) (p .here)
-    (rw (blank-left t (c .before .before .before .before .before .before .before .before), not-false (c .before .before .before .before .before .solve-block .result) (c .before .before .if2 .left)) at (c .before .before .before .before .before .solve-block .ensures))
+    piece (blank-line t (else1)) (blank-found t (else1)) (λ f E. blank-fits _ (d .position) (d .block) E) (p .rest) (omega arith) (p .here)
+    (rw (blank-left t (after-left-of), not-false (solve-block .result) (if2 .left)) at (solve-block .ensures))
     (c .update-solved .ensures)
 
 fill-matrix-color-returns : (t : ℕ) → fill-matrix-color-lts.Need-returns (color-calls t) (fill-matrix-color-at t) fill-matrix-color.Post
-fill-matrix-color-returns t c = no-branch _ _ (c .before .before .pre .1 .good) (λ f E. omega (arith, E .is))
+fill-matrix-color-returns t c =
+    let pre = c .before .before .pre in
+    no-branch _ _ (pre .1 .good) (λ f E. omega (arith, E .is))
 
 fill-matrix-color-sub-last : (t : ℕ) → fill-matrix-color-lts.Need-sub-last (color-calls t) (fill-matrix-color-at t) fill-matrix-color.Post
 fill-matrix-color-sub-last t c = search needs
@@ -235,10 +269,12 @@ fill-matrix-color-add-colour t c = let p = c .before .before .pre .1 in omega (a
 fill-matrix-color-mul-colour : (t : ℕ) → fill-matrix-color-lts.Need-mul-colour (color-calls t) (fill-matrix-color-at t) fill-matrix-color.Post
 fill-matrix-color-mul-colour t c = let p = c .before .before .pre .1 in omega (arith, p .block, p .legal .few)
 
-fill-matrix-color-element-copy-out-colour : (t : ℕ) → fill-matrix-color-lts.Need-element-copy-out-colour (color-calls t) (fill-matrix-color-at t) fill-matrix-color.Post
+fill-matrix-color-element-copy-out-colour : (t : ℕ)
+    → fill-matrix-color-lts.Need-element-copy-out-colour (color-calls t) (fill-matrix-color-at t) fill-matrix-color.Post
 fill-matrix-color-element-copy-out-colour t c = let p = c .before .before .pre .1 in omega (arith, p .block, p .legal .few)
 
-fill-matrix-color-trail-with-space-requires : (t : ℕ) → fill-matrix-color-lts.Need-trail-with-space-requires (color-calls t) (fill-matrix-color-at t) fill-matrix-color.Post
+fill-matrix-color-trail-with-space-requires : (t : ℕ)
+    → fill-matrix-color-lts.Need-trail-with-space-requires (color-calls t) (fill-matrix-color-at t) fill-matrix-color.Post
 fill-matrix-color-trail-with-space-requires t c κs = let p = c .before .before .before .pre .1 in omega (arith, p .block, p .legal .few)
 
 fill-matrix-color-add-room-of : (t : ℕ) → fill-matrix-color-lts.Need-add-room-of (color-calls t) (fill-matrix-color-at t) fill-matrix-color.Post
@@ -247,80 +283,129 @@ fill-matrix-color-add-room-of t c = let p = c .before .before .before .before .p
 fill-matrix-color-mul-room-of : (t : ℕ) → fill-matrix-color-lts.Need-mul-room-of (color-calls t) (fill-matrix-color-at t) fill-matrix-color.Post
 fill-matrix-color-mul-room-of t c = let p = c .before .before .before .before .pre .1 in omega (arith, p .block, p .legal .few)
 
-fill-matrix-color-element-copy-out-room-of : (t : ℕ) → fill-matrix-color-lts.Need-element-copy-out-room-of (color-calls t) (fill-matrix-color-at t) fill-matrix-color.Post
+fill-matrix-color-element-copy-out-room-of : (t : ℕ)
+    → fill-matrix-color-lts.Need-element-copy-out-room-of (color-calls t) (fill-matrix-color-at t) fill-matrix-color.Post
 fill-matrix-color-element-copy-out-room-of t c = let p = c .before .before .before .before .pre .1 in omega (arith, p .block, p .legal .few)
 
-fill-matrix-color-room-of-requires : (t : ℕ) → fill-matrix-color-lts.Need-room-of-requires (color-calls t) (fill-matrix-color-at t) fill-matrix-color.Post
+fill-matrix-color-room-of-requires : (t : ℕ)
+    → fill-matrix-color-lts.Need-room-of-requires (color-calls t) (fill-matrix-color-at t) fill-matrix-color.Post
 fill-matrix-color-room-of-requires t c κs = search needs
 
-fill-matrix-color-block-start-requires : (t : ℕ) → fill-matrix-color-lts.Need-block-start-requires (color-calls t) (fill-matrix-color-at t) fill-matrix-color.Post
-fill-matrix-color-block-start-requires t c κs = let p = c .before .before .before .before .before .before .pre .1 in (omega (arith, p .here, p .legal .short), c .room-of .ensures .1)
+fill-matrix-color-block-start-requires : (t : ℕ)
+    → fill-matrix-color-lts.Need-block-start-requires (color-calls t) (fill-matrix-color-at t) fill-matrix-color.Post
+fill-matrix-color-block-start-requires t c κs = let p = c .before .before .before .before .before .before .pre .1 in
+    (omega (arith, p .here, p .legal .short), c .room-of .ensures .1)
 
 -- what is known where the block's start has been found, and where the block can lie there
 abbrev color-line : (t : ℕ) → fill-matrix-color-lts.After-block-start (color-calls t) (fill-matrix-color-at t) fill-matrix-color.Post → Line
-color-line t c = held (c .before .before .before .before .before .before .before .args .line .now)
+color-line t c =
+    let args = c .before .before .before .before .before .before .before .args in
+    held (args .line .now)
 
 found : (t : ℕ) (c : fill-matrix-color-lts.After-block-start (color-calls t) (fill-matrix-color-at t) fill-matrix-color.Post)
-    → Found (color-line t c) (c .before .before .before .before .before .before .before .args .position) (c .before .before .before .before .before .before .before .args .block) (c .before .before .before .trail-with-space .result) (c .before .room-of .result) (c .block-start .result)
-found t c = record {
-  legal = c .before .before .before .before .before .before .before .pre .1 .legal;
-  some = omega arith;
-  within = c .before .before .before .before .before .before .before .pre .1 .block;
-  trail = c .before .before .before .trail-with-space .ensures;
-  room-is = c .before .room-of .ensures .0;
-  start-is = c .block-start .ensures;
-}
+    → Found (color-line t c) (c .before .before .before .before .before .before .before .args .position)
+    (c .before .before .before .before .before .before .before .args .block) (c .before .before .before .trail-with-space .result)
+    (c .before .room-of .result) (c .block-start .result)
+found t c =
+    let pre = c .before .before .before .before .before .before .before .pre in
+    let trail-with-space = c .before .before .before .trail-with-space in
+    record {
+      legal = pre .1 .legal;
+      some = omega arith;
+      within = pre .1 .block;
+      trail = trail-with-space .ensures;
+      room-is = c .before .room-of .ensures .0;
+      start-is = c .block-start .ensures;
+    }
 
 lies : (t : ℕ) (c : fill-matrix-color-lts.Else2 (color-calls t) (fill-matrix-color-at t) fill-matrix-color.Post)
-    → Lies (color-line t (c .before .before)) (c .before .before .block-start .result) (c .before .before .before .before .before .before .before .before .before .args .position) (held (c .before .before .before .before .before .before .before .before .before .args .line .now) .colour (c .before .before .before .before .before .before .before .before .before .args .block - 1)) (c .before .before .before .before .before .trail-with-space .result)
+    → Lies (color-line t (c .before .before)) (c .before .before .block-start .result)
+    (c .before .before .before .before .before .before .before .before .before .args .position)
+    (held (c .before .before .before .before .before .before .before .before .before .args .line .now) .colour
+    (c .before .before .before .before .before .before .before .before .before .args .block - 1))
+    (c .before .before .before .before .before .trail-with-space .result)
 lies t c =
-    rw (toZ-ofZ w64 (c .before .before .block-start .result) (record { sfits = c .before .before .block-start .ok })) at
+    let block-start = c .before .before .block-start in
+    rw (toZ-ofZ w64 (block-start .result) (record { sfits = block-start .ok })) at
     (c .before .can-place-color .ensures .yes (not-false _ (c .if2 .left)))
 
 color-piece : (t : ℕ) (c : fill-matrix-color-lts.Else2 (color-calls t) (fill-matrix-color-at t) fill-matrix-color.Post)
-    → Piece (color-line t (c .before .before)) (EndsBlock (color-line t (c .before .before)) (c .before .before .before .before .before .before .before .before .before .args .position) (c .before .before .before .before .before .before .before .before .before .args .block)) (lies t c .at) (c .before .before .before .before .before .before .before .before .before .args .block - 1)
-    (c .before .before .before .before .before .before .before .before .before .args .position + 1) (shade (stopOf (c .before .before .before .before .before .before .before .before .before .args .position) (c .before .before .before .before .before .trail-with-space .result)) (held (c .before .before .before .before .before .before .before .before .before .args .line .now) .colour (c .before .before .before .before .before .before .before .before .before .args .block - 1)))
-color-piece t c = block-piece (found t (c .before .before)) (lies t c .at) (lies t c .is) (lies t c .show)
+    → Piece (color-line t (c .before .before))
+    (EndsBlock (color-line t (c .before .before)) (c .before .before .before .before .before .before .before .before .before .args .position)
+    (c .before .before .before .before .before .before .before .before .before .args .block)) (lies t c .at)
+    (c .before .before .before .before .before .before .before .before .before .args .block - 1)
+    (c .before .before .before .before .before .before .before .before .before .args .position + 1)
+    (shade (stopOf (c .before .before .before .before .before .before .before .before .before .args .position)
+    (c .before .before .before .before .before .trail-with-space .result))
+    (held (c .before .before .before .before .before .before .before .before .before .args .line .now) .colour
+    (c .before .before .before .before .before .before .before .before .before .args .block - 1)))
+color-piece t c =
+    let after-block-start = c .before .before in
+    block-piece (found t (after-block-start)) (lies t c .at) (lies t c .is) (lies t c .show)
 
 -- the start is no later than the position, and is what the code casts it to
-color-low : (t : ℕ) (c : fill-matrix-color-lts.Else2 (color-calls t) (fill-matrix-color-at t) fill-matrix-color.Post) → lies t c .at ≤ c .before .before .before .before .before .before .before .before .before .args .position
-color-low t c = starts (found t (c .before .before)) (lies t c .at) (lies t c .is)
+color-low : (t : ℕ) (c : fill-matrix-color-lts.Else2 (color-calls t) (fill-matrix-color-at t) fill-matrix-color.Post)
+    → lies t c .at ≤ c .before .before .before .before .before .before .before .before .before .args .position
+color-low t c =
+    let after-block-start = c .before .before in
+    starts (found t (after-block-start)) (lies t c .at) (lies t c .is)
 
-color-first : (t : ℕ) (c : fill-matrix-color-lts.Else2 (color-calls t) (fill-matrix-color-at t) fill-matrix-color.Post) → natAbs (toZ w64 (ofZ w64 (c .before .before .block-start .result))) ≡ lies t c .at
-color-first t c = cast (c .before .before .block-start .result) (record { sfits = c .before .before .block-start .ok }) (lies t c .at) (lies t c .is)
+color-first : (t : ℕ) (c : fill-matrix-color-lts.Else2 (color-calls t) (fill-matrix-color-at t) fill-matrix-color.Post)
+    → natAbs (toZ w64 (ofZ w64 (c .before .before .block-start .result))) ≡ lies t c .at
+color-first t c =
+    let block-start = c .before .before .block-start in
+    cast (block-start .result) (record { sfits = block-start .ok }) (lies t c .at) (lies t c .is)
 
-fill-matrix-color-can-place-color-requires : (t : ℕ) → fill-matrix-color-lts.Need-can-place-color-requires (color-calls t) (fill-matrix-color-at t) fill-matrix-color.Post
+fill-matrix-color-can-place-color-requires : (t : ℕ)
+    → fill-matrix-color-lts.Need-can-place-color-requires (color-calls t) (fill-matrix-color-at t) fill-matrix-color.Post
 fill-matrix-color-can-place-color-requires t c κs =
-    let p = c .before .before .before .before .before .before .before .pre .1 in
-    (omega (arith, p .here, p .legal .short), λ s e. starts (found t (c)) s (sym (toZ-ofZ w64 (c .block-start .result) (record { sfits = c .block-start .ok })) ∙ e))
+    let p = c .before .before .before .before .before .before .before .pre .1 in (
+      omega (arith, p .here, p .legal .short),
+      λ s e. starts (found t (c)) s
+          (sym (toZ-ofZ w64 (c .block-start .result) (record { sfits = c .block-start .ok })) ∙ e),
+    )
 
 fill-matrix-color-returns-2 : (t : ℕ) → fill-matrix-color-lts.Need-returns-2 (color-calls t) (fill-matrix-color-at t) fill-matrix-color.Post
 fill-matrix-color-returns-2 t c =
-    no-branch _ _ (c .before .before .before .before .before .before .before .before .before .pre .1 .good) (no-block (found t (c .before .before))
-    (rw (toZ-ofZ w64 (c .before .before .block-start .result) (record { sfits = c .before .before .block-start .ok })) at (c .before .can-place-color .ensures .no (not-true _ (c .if2 .taken)))))
+    let pre = c .before .before .before .before .before .before .before .before .before .pre in
+    let after-block-start = c .before .before in
+    let block-start = c .before .before .block-start in
+    no-branch _ _ (pre .1 .good) (no-block (found t (after-block-start))
+    (rw (toZ-ofZ w64 (block-start .result) (record { sfits = block-start .ok })) at
+    (c .before .can-place-color .ensures .no (not-true _ (c .if2 .taken)))))
 
 fill-matrix-color-cast-first : (t : ℕ) → fill-matrix-color-lts.Need-cast-first (color-calls t) (fill-matrix-color-at t) fill-matrix-color.Post
-fill-matrix-color-cast-first t c = cast-fits (c .before .before .block-start .result) (record { sfits = c .before .before .block-start .ok }) (lies t (c) .at) (lies t (c) .is)
+fill-matrix-color-cast-first t c =
+    let block-start = c .before .before .block-start in
+    cast-fits (block-start .result) (record { sfits = block-start .ok }) (lies t (c) .at) (lies t (c) .is)
 
-fill-matrix-color-left-of-requires : (t : ℕ) → fill-matrix-color-lts.Need-left-of-requires (color-calls t) (fill-matrix-color-at t) fill-matrix-color.Post
-fill-matrix-color-left-of-requires t c κs = let p = c .before .before .before .before .before .before .before .before .before .pre .1 in omega (arith, color-first t (c), color-low t (c), p .here, p .legal .short)
+fill-matrix-color-left-of-requires : (t : ℕ)
+    → fill-matrix-color-lts.Need-left-of-requires (color-calls t) (fill-matrix-color-at t) fill-matrix-color.Post
+fill-matrix-color-left-of-requires t c κs = let p = c .before .before .before .before .before .before .before .before .before .pre .1 in omega
+    (arith, color-first t (c), color-low t (c), p .here, p .legal .short)
 
-color-left : (t : ℕ) (c : fill-matrix-color-lts.After-left-of (color-calls t) (fill-matrix-color-at t) fill-matrix-color.Post) → cellsTo (toZ w64 (ofZ w64 (c .left-of .result))) ≡ lies t (c .before) .at
+color-left : (t : ℕ) (c : fill-matrix-color-lts.After-left-of (color-calls t) (fill-matrix-color-at t) fill-matrix-color.Post)
+    → cellsTo (toZ w64 (ofZ w64 (c .left-of .result))) ≡ lies t (c .before) .at
 color-left t c = passed (c .left-of .result) (c .left-of .ok) ∙ c .left-of .ensures ∙ color-first t (c .before)
 
-fill-matrix-color-solve-block-requires : (t : ℕ) → fill-matrix-color-lts.Need-solve-block-requires (color-calls t) (fill-matrix-color-at t) fill-matrix-color.Post
+fill-matrix-color-solve-block-requires : (t : ℕ)
+    → fill-matrix-color-lts.Need-solve-block-requires (color-calls t) (fill-matrix-color-at t) fill-matrix-color.Post
 fill-matrix-color-solve-block-requires t c κs =
+    let after-left-of = c .before .before in
+    let else2 = c .before .before .before in
+    let after-block-start = c .before .before .before .before .before in
     let p = c .before .before .before .before .before .before .before .before .before .before .before .before .pre in
     let d = c .before .before .before .before .before .before .before .before .before .before .before .before .args in
-    let e = color-left t (c .before .before) in
-    let l = color-low t (c .before .before .before) in (
+    let e = color-left t (after-left-of) in
+    let l = color-low t (else2) in (
       omega (arith, p .0, e, l),
       record {
         legal = p .1 .legal;
         here = omega (arith, p .1 .here, e, l);
         block = omega (arith, p .1 .block);
         good = p .1 .good;
-        rest = rw e (piece-rest (color-line t (c .before .before .before .before .before)) (color-piece t (c .before .before .before)) (λ f E. block-fits _ (d .position) (d .block) E) (p .1 .rest) (omega (arith, l)));
+        rest = rw e (piece-rest (color-line t (after-block-start)) (color-piece t (else2)) (λ f E. block-fits _ (d .position) (d .block) E)
+            (p .1 .rest) (omega (arith, l)));
       },
     )
 
@@ -329,29 +414,43 @@ fill-matrix-color-same-length t c = search needs
 
 fill-matrix-color-returns-3 : (t : ℕ) → fill-matrix-color-lts.Need-returns-3 (color-calls t) (fill-matrix-color-at t) fill-matrix-color.Post
 fill-matrix-color-returns-3 t c =
-    no-piece _ (color-piece t (c .before .before .before .before .before .before .before))
-    (rw (color-left t (c .before .before .before .before .before .before), not-true (c .before .before .before .solve-block .result) (c .if3 .taken)) at (c .before .before .before .solve-block .ensures))
+    let else2 = c .before .before .before .before .before .before .before in
+    let after-left-of = c .before .before .before .before .before .before in
+    let solve-block = c .before .before .before .solve-block in
+    no-piece _ (color-piece t (else2))
+    (rw (color-left t (after-left-of), not-true (solve-block .result) (c .if3 .taken)) at (solve-block .ensures))
 
-fill-matrix-color-set-color-block-requires : (t : ℕ) → fill-matrix-color-lts.Need-set-color-block-requires (color-calls t) (fill-matrix-color-at t) fill-matrix-color.Post
+fill-matrix-color-set-color-block-requires : (t : ℕ)
+    → fill-matrix-color-lts.Need-set-color-block-requires (color-calls t) (fill-matrix-color-at t) fill-matrix-color.Post
 fill-matrix-color-set-color-block-requires t c κs =
+    let else2 = c .before .before .before .before .before .before .before .before in
+    let solve-block = c .before .before .before .before .solve-block in
     let p = c .before .before .before .before .before .before .before .before .before .before .before .before .before .before .before .before .before .pre .1 in
-    (omega (arith, color-first t (c .before .before .before .before .before .before .before .before), color-low t (c .before .before .before .before .before .before .before .before)), omega (arith, p .here, p .legal .short), c .before .before .before .before .solve-block .ensures .good .long)
+    (omega (arith, color-first t (else2), color-low t (else2)), omega (arith, p .here, p .legal .short), solve-block .ensures .good .long)
 
 fill-matrix-color-same-length-2 : (t : ℕ) → fill-matrix-color-lts.Need-same-length-2 (color-calls t) (fill-matrix-color-at t) fill-matrix-color.Post
 fill-matrix-color-same-length-2 t c = search needs
 
 fill-matrix-color-returns-4 : (t : ℕ) → fill-matrix-color-lts.Need-returns-4 (color-calls t) (fill-matrix-color-at t) fill-matrix-color.Post
 fill-matrix-color-returns-4 t c =
+    let after-block-start = c .before .before .before .before .before .before .before .before .before .before .before in
+    let else2 = c .before .before .before .before .before .before .before .before .before in
+    let after-left-of = c .before .before .before .before .before .before .before .before in
+    let solve-block = c .before .before .before .before .before .solve-block in
+    let if3 = c .before .before .if3 in
     let p = c .before .before .before .before .before .before .before .before .before .before .before .before .before .before .before .before .before .before .pre .1 in
     let d = c .before .before .before .before .before .before .before .before .before .before .before .before .before .before .before .before .before .before .args in
-    piece (color-line t (c .before .before .before .before .before .before .before .before .before .before .before)) (color-piece t (c .before .before .before .before .before .before .before .before .before)) (λ f E. block-fits _ (d .position) (d .block) E) (p .rest) (omega (arith, color-low t (c .before .before .before .before .before .before .before .before .before))) (p .here)
-    (rw (color-left t (c .before .before .before .before .before .before .before .before), not-false (c .before .before .before .before .before .solve-block .result) (c .before .before .if3 .left)) at (c .before .before .before .before .before .solve-block .ensures))
-    (rw (color-first t (c .before .before .before .before .before .before .before .before .before)) at (c .set-color-block .ensures))
+    piece (color-line t (after-block-start)) (color-piece t (else2)) (λ f E. block-fits _ (d .position) (d .block) E) (p .rest)
+    (omega (arith, color-low t (else2))) (p .here)
+    (rw (color-left t (after-left-of), not-false (solve-block .result) (if3 .left)) at (solve-block .ensures))
+    (rw (color-first t (else2)) at (c .set-color-block .ensures))
 
 solve-block-returns : (t : ℕ) → solve-block-lts.Need-returns (solve-calls t) (solve-block-at t) solve-block.Post
 solve-block-returns t c =
     let s = c .before .before in
-    still _ (s .pre .1 .good) (at-edge _ (cellsTo (s .args .position)) (s .args .block) _ (s .pre .1 .legal) (no-cell (s .args .position) (s .fits .position) (c .if1 .taken)))
+    still _ (s .pre .1 .good)
+    (at-edge _ (cellsTo (s .args .position)) (s .args .block) _ (s .pre .1 .legal)
+    (no-cell (s .args .position) (s .fits .position) (c .if1 .taken)))
 
 solve-block-cast-at : (t : ℕ) → solve-block-lts.Need-cast-at (solve-calls t) (solve-block-at t) solve-block.Post
 solve-block-cast-at t c =
@@ -360,7 +459,8 @@ solve-block-cast-at t c =
     cast-fits (s .args .position) (s .fits .position) (n .0) (n .1)
 
 -- the cells up to a position that is not below zero
-cells-at : (t : ℕ) (c : solve-block-lts.Else1 (solve-calls t) (solve-block-at t) solve-block.Post) → cellsTo (c .before .before .args .position) ≡ natAbs (toZ w64 (ofZ w64 (c .before .before .args .position))) + 1
+cells-at : (t : ℕ) (c : solve-block-lts.Else1 (solve-calls t) (solve-block-at t) solve-block.Post)
+    → cellsTo (c .before .before .args .position) ≡ natAbs (toZ w64 (ofZ w64 (c .before .before .args .position))) + 1
 cells-at t c = let s = c .before .before in at-cell (s .args .position) (s .fits .position) (c .if1 .left)
 
 solve-block-mul-entry : (t : ℕ) → solve-block-lts.Need-mul-entry (solve-calls t) (solve-block-at t) solve-block.Post
@@ -370,34 +470,43 @@ solve-block-add-entry : (t : ℕ) → solve-block-lts.Need-add-entry (solve-call
 solve-block-add-entry t c = let p = c .before .before .pre .1 in omega (arith, cells-at t (c), p .here, p .legal .short, p .block, p .legal .few)
 
 solve-block-slice-read-known : (t : ℕ) → solve-block-lts.Need-slice-read-known (solve-calls t) (solve-block-at t) solve-block.Post
-solve-block-slice-read-known t c = let p = c .before .before .before .pre .1 in omega (arith, cells-at t (c .before), p .here, p .legal .short, p .block, p .legal .few, p .good .room)
+solve-block-slice-read-known t c = let p = c .before .before .before .pre .1 in omega
+    (arith, cells-at t (c .before), p .here, p .legal .short, p .block, p .legal .few, p .good .room)
 
 solve-block-returns-2 : (t : ℕ) → solve-block-lts.Need-returns-2 (solve-calls t) (solve-block-at t) solve-block.Post
 solve-block-returns-2 t c =
+    let else1 = c .before .before in
     let p = c .before .before .before .before .pre .1 in
-    let e = cells-at t (c .before .before) in
+    let e = cells-at t (else1) in
     rw e (still _ (p .good) (p .good .known _ _ (omega (arith, e, p .here)) (p .block) (c .if2 .taken)))
 
 solve-block-fill-matrix-requires : (t : ℕ) → solve-block-lts.Need-fill-matrix-requires (solve-calls t) (solve-block-at t) solve-block.Post
 solve-block-fill-matrix-requires t c κs =
+    let else1 = c .before .before .before .before in
     let p = c .before .before .before .before .before .before .pre in
-    let e = cells-at t (c .before .before .before .before) in
+    let e = cells-at t (else1) in
     (omega (arith, e, p .0), rw e at (p .1))
 
 solve-block-mark-requires : (t : ℕ) → solve-block-lts.Need-mark-requires (solve-calls t) (solve-block-at t) solve-block.Post
 solve-block-mark-requires t c κs = search needs
 
 solve-block-slice-write-memo : (t : ℕ) → solve-block-lts.Need-slice-write-memo (solve-calls t) (solve-block-at t) solve-block.Post
-solve-block-slice-write-memo t c = let p = c .before .before .before .before .before .before .before .before .before .before .pre .1 in omega (arith, cells-at t (c .before .before .before .before .before .before .before .before), p .here, p .legal .short, p .block, p .legal .few, c .before .before .before .fill-matrix .ensures .good .room)
+solve-block-slice-write-memo t c =
+    let else1 = c .before .before .before .before .before .before .before .before in
+    let fill-matrix = c .before .before .before .fill-matrix in
+    let p = c .before .before .before .before .before .before .before .before .before .before .pre .1 in omega
+    (arith, cells-at t (else1), p .here, p .legal .short, p .block, p .legal .few, fill-matrix .ensures .good .room)
 
 solve-block-same-length : (t : ℕ) → solve-block-lts.Need-same-length (solve-calls t) (solve-block-at t) solve-block.Post
 solve-block-same-length t c = search needs
 
 solve-block-returns-3 : (t : ℕ) → solve-block-lts.Need-returns-3 (solve-calls t) (solve-block-at t) solve-block.Post
 solve-block-returns-3 t c =
+    let else1 = c .before .before .before .before .before .before .before .before in
+    let fill-matrix = c .before .before .before .fill-matrix in
     let p = c .before .before .before .before .before .before .before .before .before .before .pre .1 in
-    let e = cells-at t (c .before .before .before .before .before .before .before .before) in
-    rw e (learn _ _ _ _ (omega (arith, e, p .here)) (p .block) (p .legal) (c .mark .ensures) (c .before .before .before .fill-matrix .ensures))
+    let e = cells-at t (else1) in
+    rw e (learn _ _ _ _ (omega (arith, e, p .here)) (p .block) (p .legal) (c .mark .ensures) (fill-matrix .ensures))
 
 pub +fill-matrix+fill-matrix-blank+fill-matrix-color+solve-block-spec : {M : Type 1} → statement M
 +fill-matrix+fill-matrix-blank+fill-matrix-color+solve-block-spec =

@@ -8,7 +8,6 @@ use Rattle.line.specs.Steps.{Added}
 use Rattle.line.proofs.Added.{added-none, added-right}
 use Rattle.line.proofs.solver.add_all.Statement.{statement}
 use Rattle.line.proofs.solver.add_all.Tie as tie
-use Rattle.line.proofs.solver.update_solved.Reads as update-solved-reads
 
 abbrev Inv-loop : tie.InvT-loop
 Inv-loop out₀ start end colour i₀ out i = (start ≤ i) × (i ≤ end) × (end ≤ 64) × (64 ≤ length out) × Added out₀ out start i (λ j. colour)
@@ -31,13 +30,20 @@ loop-less c = search needs
 loop-again : tie.Need-loop-again Inv-loop μ-loop
 loop-again c =
     let l = c .before .before .before .loop in
-    let u = c .update-solved in
-    (search needs, search needs, search needs, omega (arith, u .ensures .long), added-right _ (l .i) _ (search needs) (search needs) (l .inv .4) (u .ensures))
+    let u = c .update-solved in (
+      search needs,
+      search needs,
+      search needs,
+      omega (arith, u .ensures .long),
+      added-right _ (l .i) _ (search needs) (search needs) (l .inv .4)
+          (u .ensures),
+    )
 
 returns : tie.Need-returns Inv-loop μ-loop
 returns c =
+    let args = c .before .before .args in
     let l = c .before .loop in
-    let e : l .i ≡ c .before .before .args .end = omega arith in
+    let e : l .i ≡ args .end = omega arith in
     rw e at (l .inv .4)
 
 pub add-all-spec : {M : Type 1} → statement M

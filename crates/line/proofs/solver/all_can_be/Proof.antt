@@ -11,7 +11,6 @@ use Rattle.line.specs.Steps.{AllTake}
 use Rattle.line.proofs.Fillings.{told}
 use Rattle.line.proofs.solver.all_can_be.Statement.{statement}
 use Rattle.line.proofs.solver.all_can_be.Tie as tie
-use Rattle.line.proofs.solver.can_be.Reads as can-be-reads
 
 abbrev Inv-loop : tie.InvT-loop
 Inv-loop line start end colour i₀ i = (start ≤ i) × (end ≤ 64) × AllTake (held line) start i colour
@@ -34,10 +33,12 @@ can-be-requires c κs = search needs
 
 returns : tie.Need-returns Inv-loop μ-loop
 unfolding AllTake
-returns c = record {
-  yes = λ e. absurd (false≢true e);
-  no = λ e h. told (c .before .can-be .ensures) .no (not-true _ (c .if1 .taken)) (h (c .before .before .before .before .loop .i) (omega arith) (omega arith));
-}
+returns c =
+    let loop = c .before .before .before .before .loop in
+    record {
+      yes = λ e. absurd (false≢true e);
+      no = λ e h. told (c .before .can-be .ensures) .no (not-true _ (c .if1 .taken)) (h (loop .i) (omega arith) (omega arith));
+    }
 
 add-i : tie.Need-add-i Inv-loop μ-loop
 add-i c = search needs

@@ -15,8 +15,6 @@ use Rattle.line.proofs.Fillings.{told}
 use borrow.Author.Needs.{needs}
 use Rattle.line.proofs.solver.can_place_color.Statement.{statement}
 use Rattle.line.proofs.solver.can_place_color.Tie as tie
-use Rattle.line.proofs.solver.all_can_be.Reads as all-can-be-reads
-use Rattle.line.proofs.solver.can_be.Reads as can-be-reads
 
 module _ (L : Line) (z : ℤ) (position colour : ℕ) where
   -- a start that is a number is the place
@@ -28,7 +26,8 @@ module _ (L : Line) (z : ℤ) (position colour : ℕ) where
 
   module _ (s : ℕ) (is : z ≡ pos s) where
     -- with its blank
-    trailing-lies : {r : Bool} → T (canTake (L .cell position) 1) → Decides (AllTake L s position colour) r → Decides (Lies L z position colour true) r
+    trailing-lies : {r : Bool} → T (canTake (L .cell position) 1) → Decides (AllTake L s position colour) r
+        → Decides (Lies L z position colour true) r
     unfolding CanShow AllTake
     trailing-lies b D = record {
       yes = λ e. record {
@@ -75,9 +74,11 @@ can-be-requires c κs = search needs
 
 returns-2 : tie.Need-returns-2
 returns-2 c =
+    let if1 = c .before .before .before .before .if1 in
+    let if2 = c .before .before .before .if2 in
     let b = c .before .before .before .before .before in
-    let n = natural (b .args .start) (b .fits .start) (c .before .before .before .before .if1 .left) in
-    rw (c .before .before .before .if2 .taken)
+    let n = natural (b .args .start) (b .fits .start) (if1 .left) in
+    rw (if2 .taken)
     (lies-not _ _ _ _ (no-blank _ _ _ _ (n .0) (n .1) (b .pre .1 (n .0) (n .1)) (told (c .before .can-be .ensures) .no (not-true _ (c .if3 .taken)))))
 
 all-can-be-requires : tie.Need-all-can-be-requires
@@ -91,16 +92,20 @@ all-can-be-requires-2 c κs = search needs
 
 returns-3 : tie.Need-returns-3
 returns-3 c =
+    let if1 = c .before .before .before .before .before .if1 in
+    let if2 = c .before .before .before .before .if2 in
+    let can-be = c .before .before .can-be in
     let b = c .before .before .before .before .before .before in
-    let n = natural (b .args .start) (b .fits .start) (c .before .before .before .before .before .if1 .left) in
+    let n = natural (b .args .start) (b .fits .start) (if1 .left) in
     let e = cast (b .args .start) (b .fits .start) (n .0) (n .1) in
-    rw (c .before .before .before .before .if2 .taken)
-    (trailing-lies _ _ _ _ (n .0) (n .1) (told (c .before .before .can-be .ensures) .yes (not-false _ (c .before .if3 .left))) (rw e at (c .all-can-be .ensures)))
+    rw (if2 .taken)
+    (trailing-lies _ _ _ _ (n .0) (n .1) (told (can-be .ensures) .yes (not-false _ (c .before .if3 .left))) (rw e at (c .all-can-be .ensures)))
 
 returns-4 : tie.Need-returns-4
 returns-4 c =
+    let if1 = c .before .before .if1 in
     let b = c .before .before .before in
-    let n = natural (b .args .start) (b .fits .start) (c .before .before .if1 .left) in
+    let n = natural (b .args .start) (b .fits .start) (if1 .left) in
     let e = cast (b .args .start) (b .fits .start) (n .0) (n .1) in
     rw (c .before .if2 .left)
     (plain-lies _ _ _ _ (n .0) (n .1) (rw e at (c .all-can-be2 .ensures)))

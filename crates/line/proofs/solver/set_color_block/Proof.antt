@@ -7,8 +7,6 @@ use Rattle.line.proofs.Added.{added-as, added-left}
 use borrow.Author.Needs.{needs}
 use Rattle.line.proofs.solver.set_color_block.Statement.{statement}
 use Rattle.line.proofs.solver.set_color_block.Tie as tie
-use Rattle.line.proofs.solver.add_all.Reads as add-all-reads
-use Rattle.line.proofs.solver.update_solved.Reads as update-solved-reads
 
 update-solved-requires : tie.Need-update-solved-requires
 update-solved-requires c κs = search needs
@@ -24,18 +22,21 @@ add-all-requires-2 c κs = search needs
 
 returns : tie.Need-returns
 returns c =
+    let if1 = c .before .before .before .before .if1 in
+    let update-solved = c .before .before .update-solved in
     let b = c .before .before .before .before .before in
     let p = b .args .position in
-    rw (c .before .before .before .before .if1 .taken)
+    rw (if1 .taken)
     (added-left (b .args .start) p (p + 1) (b .pre .0) (omega arith)
-    (added-as (shade p (b .args .colour)) (c .before .before .update-solved .ensures) (λ i u v. rw (le-ltb i p u)))
+    (added-as (shade p (b .args .colour)) (update-solved .ensures) (λ i u v. rw (le-ltb i p u)))
     (added-as (shade p (b .args .colour)) (c .add-all .ensures) (λ i u v. rw (lt-ltb i p v))))
 
 returns-2 : tie.Need-returns-2
 returns-2 c =
+    let if1 = c .before .before .if1 in
     let b = c .before .before .before in
     let p = b .args .position in
-    rw (c .before .before .if1 .left)
+    rw (if1 .left)
     (added-as (shade (p + 1) (b .args .colour)) (c .add-all2 .ensures) (λ i u v. rw (lt-ltb i (p + 1) v)))
 
 pub set-color-block-spec : {M : Type 1} → statement M

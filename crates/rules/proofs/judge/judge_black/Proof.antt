@@ -5,8 +5,6 @@ use borrow.Author.Needs.{needs}
 use borrow.Author.Needs.{needs}
 use Rattle.rules.proofs.judge.judge_black.Statement.{statement}
 use Rattle.rules.proofs.judge.judge_black.Tie as tie
-use Rattle.rules.proofs.judge.any_empty.Reads as any-empty-reads
-use Rattle.rules.proofs.judge.judge_count.Reads as judge-count-reads
 
 judge-count-requires : tie.Need-judge-count-requires
 judge-count-requires c κs = search needs
@@ -23,7 +21,12 @@ any-empty-requires c κs = search needs
 returns : tie.Need-returns
 returns c =
     let args = c .before .before .before .before .before .before .args in
-    sym (black-split (args .sizes .now) (args .roomy) ∙ rw (sym (c .before .before .before .before .judge-count .ensures) ∙ c .before .before .enum-told .given .1, sym (c .before .any-empty .ensures) ∙ c .if1 .taken))
+    sym (black-split (args .sizes .now) (args .roomy)
+    ∙ rw (
+      sym (c .before .before .before .before .judge-count .ensures)
+          ∙ c .before .before .enum-told .given .1,
+      sym (c .before .any-empty .ensures) ∙ c .if1 .taken,
+    ))
 
 returns-2 : tie.Need-returns-2
 returns-2 c =
@@ -33,7 +36,12 @@ returns-2 c =
 returns-3 : tie.Need-returns-3
 returns-3 c =
     let args = c .before .before .before .before .before .before .args in
-    sym (black-split (args .sizes .now) (args .roomy) ∙ rw (sym (c .before .before .before .before .judge-count .ensures) ∙ c .before .before .enum-told .given .1, sym (c .before .any-empty .ensures) ∙ c .if1 .left))
+    sym (black-split (args .sizes .now) (args .roomy)
+    ∙ rw (
+      sym (c .before .before .before .before .judge-count .ensures)
+          ∙ c .before .before .enum-told .given .1,
+      sym (c .before .any-empty .ensures) ∙ c .if1 .left,
+    ))
 
 pub judge-black-spec : {M : Type 1} → statement M
 judge-black-spec =
