@@ -9,6 +9,7 @@ import random
 import subprocess
 import sys
 
+from drawing import fill_blocks
 from reading import CALLS
 
 SEED = int(sys.argv[2]) if len(sys.argv) > 2 else 7301
@@ -55,17 +56,8 @@ def draw_length():
 def draw_line():
     """A length, and blocks that fit it; at times they fill it to the last cell."""
     length, palette = draw_length(), draw_palette()
-    sizes, colours, left = [], [], length - rng.choice([0, 0, rng.randint(0, length)])
-    longest = rng.choice([1, 2, 5, 64])
-    while left > 0:
-        colour = rng.choice(palette)
-        left -= bool(colours) and colours[-1] == colour
-        if left <= 0:
-            break
-        sizes.append(rng.randint(1, min(longest, left)))
-        colours.append(colour)
-        left -= sizes[-1]
-    return [length, sizes, colours]
+    left = length - rng.choice([0, 0, rng.randint(0, length)])
+    return [length, *fill_blocks(rng, left, rng.choice([1, 2, 5, 64]), palette)]
 
 
 def draw_binary_line():

@@ -9,6 +9,7 @@ import random
 import subprocess
 import sys
 
+from drawing import fill_blocks
 from reading import BINARY_SETS, BLACK, BLANK, LEAST_MEMO, LINE_CALLS
 
 SEED = int(sys.argv[2]) if len(sys.argv) > 2 else 7302
@@ -29,17 +30,7 @@ def draw_palette(call):
 def draw_blocks(length, palette):
     """Blocks that fit the length: none, few or many, short or long, at times filling it to the last cell."""
     left = length - rng.choice([0, 0, rng.randint(0, min(3, length)), rng.randint(0, length), rng.randint(0, length)])
-    longest = rng.choice([1, 2, 3, 5, 64])
-    sizes, colours = [], []
-    while left > 0:
-        colour = rng.choice(palette)
-        left -= bool(colours) and colours[-1] == colour
-        if left <= 0:
-            break
-        sizes.append(rng.randint(1, min(longest, left)))
-        colours.append(colour)
-        left -= sizes[-1]
-    return sizes, colours
+    return fill_blocks(rng, left, rng.choice([1, 2, 3, 5, 64]), palette)
 
 
 def gaps_of(colours):

@@ -1,6 +1,6 @@
 -- The laws of fillings: how a filling of the first cells ends, how an answer grows by a piece, and how the memo learns.
 use mathlib.Core.Path.{_≡_, refl, sym, subst, _∙_}
-use mathlib.Core.Bool.{Bool, true, false, _||_, false≢true, true≢false}
+use mathlib.Core.Bool.{Bool, true, false, _||_, false≢true, true≢false, cond}
 use mathlib.Core.Logic.{_⊎_, inl, inr, ⊎-elim}
 use mathlib.Core.List.{List}
 use Prim.Native.Nat.{ℕ, zero, suc, _+_, _≤_, _<_}
@@ -13,7 +13,7 @@ use lib.ListN.{length, getD, set, length-set}
 use lib.Seq.{getD-set-same, getD-set-other}
 use Rattle.rules.proofs.Tests.{below?}
 use Rattle.rules.proofs.Colours.{has-or}
-use Rattle.line.specs.Filling.{Line, pick, taken, space, BlockAt, Shows, edge, blank, block, AgreesTo, Fits, Solution}
+use Rattle.line.specs.Filling.{Line, taken, space, BlockAt, Shows, edge, blank, block, AgreesTo, Fits, Solution}
 use Rattle.line.specs.Steps.{AllSized, Decides, Added, Covered, Grows, Answer, Rest, Good, Legal, Tell, EndsBlank, EndsBlock, entryOf}
 use Rattle.line.proofs.Added.{added-grows, added-covers}
 
@@ -26,7 +26,7 @@ told {r} {b} e = record {
 
 -- g below p, and h from p on
 abbrev pub patch : ℕ → (ℕ → ℕ) → (ℕ → ℕ) → ℕ → ℕ
-patch p g h i = pick (ltb i p) (g i) (h i)
+patch p g h i = cond (ltb i p) (g i) (h i)
 
 pub patch-lt : (p : ℕ) (g h : ℕ → ℕ) (i : ℕ) → i < p → patch p g h i ≡ g i
 patch-lt p g h i l = rw (lt-ltb i p l)

@@ -8,3 +8,4 @@ pub mod Whole
 pub mod Told
 pub mod Unique
 pub mod Order
+pub mod Meaning

@@ -1,6 +1,6 @@
 -- The two pieces that a filling can end in, as the code finds them: a blank, and a block with its gap.
 use mathlib.Core.Path.{_≡_, sym, _∙_}
-use mathlib.Core.Bool.{Bool, true, false}
+use mathlib.Core.Bool.{Bool, true, false, cond}
 use Prim.Native.Nat.{ℕ, _+_, _-_, _≤_, _<_}
 use native.Mathlib.Omega.{arith}
 use borrow.Author.Tests.{lt-ltb, le-ltb}
@@ -8,7 +8,7 @@ use lib.Dec.{T}
 use lib.IntN.{ℤ, pos, subℕ}
 use Rattle.rules.specs.Colour.{canTake}
 use Rattle.rules.proofs.Tests.{below?}
-use Rattle.line.specs.Filling.{Line, pick, trails, gap, AgreesTo}
+use Rattle.line.specs.Filling.{Line, trails, gap, AgreesTo}
 use Rattle.line.specs.Steps.{AllSized, shade, stopOf, CanShow, Lies, Legal, EndsBlank, EndsBlock}
 use Rattle.line.proofs.Ints.{sub-is, is-sub}
 use Rattle.line.proofs.Fillings.{Piece}
@@ -20,7 +20,7 @@ blank-piece L at b h = record {
   made = λ f F s. record { before = F; takes = h; is = s at (omega arith) (omega arith) };
 }
 
-stop-is : (t : Bool) (at x : ℕ) → x + pick t 1 0 ≡ at + 1 → stopOf at t ≡ x
+stop-is : (t : Bool) (at x : ℕ) → x + cond t 1 0 ≡ at + 1 → stopOf at t ≡ x
 stop-is true at x e = omega arith
 stop-is false at x e = omega arith
 
@@ -30,7 +30,7 @@ pub record Found (L : Line) (at b : ℕ) (t : Bool) (room : ℕ) (z : ℤ) : Typ
   pub some : 1 ≤ b
   pub within : b ≤ L .count
   pub trail : t ≡ trails L (b - 1)
-  pub room-is : room ≡ L .size (b - 1) + pick t 1 0
+  pub room-is : room ≡ L .size (b - 1) + cond t 1 0
   pub start-is : z ≡ subℕ (at + 1) room
 
 module _ {L : Line} {at b : ℕ} {t : Bool} {room : ℕ} {z : ℤ} (F : Found L at b t room z) where
@@ -48,7 +48,7 @@ module _ {L : Line} {at b : ℕ} {t : Bool} {room : ℕ} {z : ℤ} (F : Found L 
   where-is : {f : ℕ → ℕ} (E : EndsBlock L at b f) → E .start + room ≡ at + 1
   where-is E =
       let e : E .prior ≡ b - 1 = omega (arith, E .is) in
-      let g : gap L (E .prior) ≡ pick t 1 0 = rw (F .trail, e) in
+      let g : gap L (E .prior) ≡ cond t 1 0 = rw (F .trail, e) in
       let d : L .size (E .prior) ≡ size = rw e in
       omega (arith, E .block .ends)
 
@@ -92,7 +92,7 @@ module _ {L : Line} {at b : ℕ} {t : Bool} {room : ℕ} {z : ℤ} (F : Found L 
         before = W .shows;
         block = record {
           within = omega arith;
-          ends = let g : gap L (b - 1) ≡ pick t 1 0 = rw (F .trail) in omega (arith, fills);
+          ends = let g : gap L (b - 1) ≡ cond t 1 0 = rw (F .trail) in omega (arith, fills);
           inside = λ i u v. w i u (omega (arith, fills)) ∙ rw (stop s fills, lt-ltb i (s + size) v);
           after = λ i u v. w i (omega arith) v ∙ rw (stop s fills, le-ltb i (s + size) u);
         };

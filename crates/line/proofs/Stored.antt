@@ -1,7 +1,7 @@
 -- The array that holds a line: what stands where once its blocks and their sums are written.
 use mathlib.Core.Path.{_≡_, refl, sym, ap, ap₂, _∙_}
 use mathlib.Core.Logic.{_≢_}
-use mathlib.Core.Bool.{Bool, true, false}
+use mathlib.Core.Bool.{Bool, true, false, cond}
 use mathlib.Core.List.{List}
 use Prim.Native.Nat.{ℕ, zero, suc, _+_, _-_, _≤_, _<_}
 use native.Mathlib.Numerals.{add-one}
@@ -11,7 +11,7 @@ use lib.ListN.{length, getD, set, length-set, List·getD-eq-default}
 use lib.Seq.{sets, length-sets, getD-set-same, getD-set-other}
 use Rattle.rules.proofs.Tests.{below?}
 use Rattle.loops.proofs.Stores.{sets-before, sets-at}
-use Rattle.line.specs.Filling.{Line, held, pick, trails, gap, taken, space}
+use Rattle.line.specs.Filling.{Line, held, trails, gap, taken, space}
 use Rattle.line.specs.Steps.{Holdable, Holds, KeptBut}
 
 -- ---- the blocks
@@ -78,9 +78,9 @@ module _ {n : ℕ} {sizes colours xs : List ℕ} (H : Holdable n sizes colours x
 
 -- ---- the least space of the first blocks, one block more at a time
 
-pub pick-le : (t : Bool) → pick t 1 0 ≤ 1
-pick-le true = omega arith
-pick-le false = omega arith
+pub cond-le : (t : Bool) → cond t 1 0 ≤ 1
+cond-le true = omega arith
+cond-le false = omega arith
 
 module _ (L : Line) where
   pub taken-more : (b : ℕ) → taken L (b + 1) ≡ taken L b + L .size b + gap L b
@@ -142,7 +142,7 @@ module _ {xs ys : List ℕ} {start b : ℕ} (S : Summing xs ys start b) (few : b
   pub end-space : start + held ys .size b ≡ space (held xs) (b + 1)
   end-space = omega (arith, S .at, size-same, space-more (held xs) b)
 
-  module _ (room : ℕ) (is : room ≡ held ys .size b + pick (trails (held ys) b) 1 0) (end : ℕ) (ends : end ≡ start + held ys .size b) (low : end ≤ 64)
+  module _ (room : ℕ) (is : room ≡ held ys .size b + cond (trails (held ys) b) 1 0) (end : ℕ) (ends : end ≡ start + held ys .size b) (low : end ≤ 64)
       (long : 260 ≤ length ys) where
     pub summing-more : Summing xs (set ys (193 + (b + 1)) (end - 1)) (start + room) (b + 1)
     summing-more = record {
@@ -150,10 +150,10 @@ module _ {xs ys : List ℕ} {start b : ℕ} (S : Summing xs ys start b) (few : b
         long = length-set ys (193 + (b + 1)) (end - 1) ∙ S .kept .long;
         same = λ i n. getD-set-other ys (193 + (b + 1)) i (end - 1) 0 (λ e. n (omega arith) (omega arith)) ∙ S .kept .same i n;
       };
-      at = (let e : start + room ≡ start + held ys .size b + pick (trails (held ys) b) 1 0 = omega arith in e)
-          ∙ ap₂ (λ x t. x + pick t 1 0) (ends-at) trails-same
+      at = (let e : start + room ≡ start + held ys .size b + cond (trails (held ys) b) 1 0 = omega arith in e)
+          ∙ ap₂ (λ x t. x + cond t 1 0) (ends-at) trails-same
           ∙ sym (taken-more (held xs) b);
-      low = omega (arith, pick-le (trails (held ys) b));
+      low = omega (arith, cond-le (trails (held ys) b));
       sums = λ c h. below? b c
           (λ l. let e : c ≡ b + 1 = omega arith in rw e
           (getD-set-same ys (193 + (b + 1)) (end - 1) 0 (omega arith) ∙ ap (λ x. x - 1) (ends ∙ end-space)))

@@ -16,7 +16,7 @@ use Rattle.line.specs.declared.LineAnswer.{LineAnswer}
 use Rattle.line.specs.declared.LineAnswer.the-variants.{Done, Unsolvable, Refused}
 
 -- no refusal by checking has the number 0 or 8
-by-checking : (w : Refusal) → (refusalNumber w ≡ 0 → ⊥) × (refusalNumber w ≡ 8 → ⊥)
+pub by-checking : (w : Refusal) → (refusalNumber w ≡ 0 → ⊥) × (refusalNumber w ≡ 8 → ⊥)
 by-checking BadLength = (λ e. omega arith, λ e. omega arith)
 by-checking BadRoom = (λ e. omega arith, λ e. omega arith)
 by-checking TooManyBlocks = (λ e. omega arith, λ e. omega arith)

@@ -1,9 +1,9 @@
 -- The whole line: what the array holds once blocks and sums are written, what the solver is asked there, and that its answer is the paper's.
 use mathlib.Core.Path.{_≡_, refl, sym, ap, _∙_, subst}
-use mathlib.Core.Bool.{Bool, true, false}
+use mathlib.Core.Bool.{Bool, true, false, cond}
 use mathlib.Core.Logic.{⊎-elim, _≢_}
 use mathlib.Core.List.{List, [], _∷_, _++_}
-use mathlib.Core.Option.{Option, none}
+use mathlib.Core.Option.{none}
 use Prim.Native.Nat.{ℕ, zero, suc, _+_, _*_, _-_, _≤_, _<_}
 use native.Mathlib.Nat.{not-suc-le-zero, le-of-suc-le-suc}
 use native.Mathlib.Omega.{arith}
@@ -13,18 +13,16 @@ use lib.ListN.{length, getD, take, replicate, getD-replicate, length-replicate}
 use lib.Seq.{getD-take, length-take-le}
 use Rattle.rules.specs.Colour.{Has, Colour}
 use Rattle.rules.specs.Block.{Block, blocks, Legal, legal-block}
-use Rattle.rules.specs.Placement.{pieces, Lay, placements}
+use Rattle.rules.specs.Placement.{pieces, Lay}
 use Rattle.rules.specs.Placement.{gap as gapOf}
 use Rattle.rules.specs.Answer.{Fitting, Answers, Exact}
-use Rattle.rules.specs.Binary.{lineAnswer}
 use Rattle.rules.specs.Board.{tabulate}
 use Rattle.rules.proofs.Tests.{eqb-cases}
 use Rattle.rules.proofs.Colours.{not-has-zero, has-pow, has-inside}
 use Rattle.rules.proofs.Blocks.{test-legal}
-use Rattle.rules.proofs.Answers.{answer-only, answer-for}
-use Rattle.rules.proofs.Placements.{placements-exact}
+use Rattle.rules.proofs.Binaries.{line-only}
 use Rattle.rules.proofs.Boards.{getD-tabulate}
-use Rattle.line.specs.Filling.{Line, held, pick, space, Fits, Solution}
+use Rattle.line.specs.Filling.{Line, held, space, Fits, Solution}
 use Rattle.line.specs.Steps.{AllSized, SumsTo, Covered, Cleared, Rest, Ask, Tell, Holds, Summable, KeptBut, Solvable, Tried, outcome, entryOf}
 use Rattle.line.specs.Steps.{Legal as LegalLine}
 use Rattle.line.proofs.Fillings.{space-le}
@@ -41,7 +39,7 @@ length-pieces [] cs e = refl
 length-pieces (n ∷ ns) [] e = absurd (omega arith)
 length-pieces (n ∷ ns) (c ∷ cs) e = ap suc (length-pieces ns cs (omega arith))
 
-gap-first : (c : ℕ) (ns cs : List ℕ) → length ns ≡ length cs → c ≢ 0 → gapOf c (blocks ns cs) ≡ replicate (pick (eqb (getD cs 0 0) c) 1 0) 1
+gap-first : (c : ℕ) (ns cs : List ℕ) → length ns ≡ length cs → c ≢ 0 → gapOf c (blocks ns cs) ≡ replicate (cond (eqb (getD cs 0 0) c) 1 0) 1
 gap-first c [] [] e z = rw (ne-eqb 0 c (λ q. z (sym q)))
 gap-first c [] (d ∷ ds) e z = absurd (omega arith)
 gap-first c (n ∷ ns) [] e z = absurd (omega arith)
@@ -51,7 +49,7 @@ gap-first c (n ∷ ns) (d ∷ ds) e z = ⊎-elim
     (eqb-cases c d)
 
 abbrev pieceOf : List ℕ → List ℕ → ℕ → List ℕ
-pieceOf ns cs b = replicate (getD ns b 0) (getD cs b 0) ++ replicate (pick (eqb (getD cs (b + 1) 0) (getD cs b 0)) 1 0) 1
+pieceOf ns cs b = replicate (getD ns b 0) (getD cs b 0) ++ replicate (cond (eqb (getD cs (b + 1) 0) (getD cs b 0)) 1 0) 1
 
 piece-of : (ns cs : List ℕ) → length ns ≡ length cs → Legal (blocks ns cs) → (b : ℕ) → b < length ns
     → getD (pieces (blocks ns cs)) b [] ≡ pieceOf ns cs b
@@ -61,7 +59,7 @@ piece-of (n ∷ ns) (c ∷ cs) e (legal-block s k d l) zero h = ap (λ (t : List
 piece-of (n ∷ ns) (c ∷ cs) e (legal-block s k d l) (suc b) h =
     let q : suc b + 1 ≡ suc (b + 1) = omega arith in
     piece-of ns cs (omega arith) l b (le-of-suc-le-suc h)
-    ∙ ap (λ (x : ℕ). replicate (getD ns b 0) (getD cs b 0) ++ replicate (pick (eqb (getD (c ∷ cs) x 0) (getD cs b 0)) 1 0) 1) (sym q)
+    ∙ ap (λ (x : ℕ). replicate (getD ns b 0) (getD cs b 0) ++ replicate (cond (eqb (getD (c ∷ cs) x 0) (getD cs b 0)) 1 0) 1) (sym q)
 
 size-some : (ns cs : List ℕ) → length ns ≡ length cs → Legal (blocks ns cs) → (b : ℕ) → b < length ns → 1 ≤ getD ns b 0
 size-some [] cs e l b h = absurd (not-suc-le-zero h)
@@ -146,15 +144,10 @@ module _ {n : ℕ} {sizes colours xs memo work ys : List ℕ} (S : Solvable n si
     to-fit : {f : ℕ → ℕ} → Solution L f → Fitting P cells (tabulate (length cells) f)
     to-fit s = solution-fit pieces-are (length-is ∙ sym cells-long) cell-same s
 
-    -- the paper has one answer
-    one-answer : (o : Option (List ℕ)) → Answers P cells o → lineAnswer bs cells ≡ o
-    one-answer o a = answer-only P cells (lineAnswer bs cells) o
-        (answer-for (placements bs (length cells)) (placements-exact bs (length cells)) cells) a
-
     -- more than there is room for: no placement agrees
     pub over-told : {work′ : List ℕ} → n < space (held ys) (length sizes) → 64 ≤ length work′ → Tried n bs xs false work′
     over-told h l = record {
-      tells = one-answer none (record { never = λ p f. omega (arith, space-le L (L .count) (to-solution f .shows), same-space, length-is) });
+      tells = line-only bs cells none (record { never = λ p f. omega (arith, space-le L (L .count) (to-solution f .shows), same-space, length-is) });
       long = l;
     }
       where
@@ -196,7 +189,7 @@ module _ {n : ℕ} {sizes colours xs memo work ys : List ℕ} (S : Solvable n si
 
       pub solver-told : (r : Bool) → Tell L (Fits L p b) p r work₀ memo′ work′ → Tried n bs xs r work′
       solver-told r t = record {
-        tells = one-answer (outcome r (take n work′)) (told r (whole t));
+        tells = line-only bs cells (outcome r (take n work′)) (told r (whole t));
         long = t .good .long;
       }
 

@@ -1,7 +1,7 @@
 -- The line as the solver holds it, and its fillings: the placements in a form that grows from left to right, a cell or a block at a time.
 -- `Bridge` in proofs/ carries it to the paper's placements; no public call speaks of it.
 use mathlib.Core.Path.{_≡_}
-use mathlib.Core.Bool.{Bool, true, false}
+use mathlib.Core.Bool.{Bool, cond}
 use mathlib.Core.List.{List}
 use Prim.Native.Nat.{ℕ, zero, suc, _+_, _<_, _≤_}
 use lib.Dec.{T, eqb}
@@ -28,17 +28,13 @@ held xs = record {
   sum = λ b. getD xs (193 + b) 0;
 }
 
-abbrev pub pick {ℓ} : {A : Type ℓ} → Bool → A → A → A
-pick true a b = a
-pick false a b = b
-
 -- the block after block b has its colour
 abbrev pub trails : Line → ℕ → Bool
 trails L b = eqb (L .colour (b + 1)) (L .colour b)
 
 -- the blanks that block b has to have after it: one before a block of its own colour, else none
 abbrev pub gap : Line → ℕ → ℕ
-gap L b = pick (trails L b) 1 0
+gap L b = cond (trails L b) 1 0
 
 -- the cells that the first b blocks take with their gaps, packed to the left
 abbrev pub taken : Line → ℕ → ℕ

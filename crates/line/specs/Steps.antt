@@ -1,6 +1,6 @@
 -- What the solver's private functions ask and tell.
 use mathlib.Core.Path.{_≡_}
-use mathlib.Core.Bool.{Bool, true, false}
+use mathlib.Core.Bool.{Bool, true, false, cond}
 use mathlib.Core.List.{List}
 use mathlib.Core.Option.{Option, none, some}
 use Prim.Native.Nat.{ℕ, suc, _+_, _*_, _-_, _≤_, _<_}
@@ -11,7 +11,7 @@ use lib.ListN.{length, getD, take, replicate}
 use Rattle.rules.specs.Colour.{Has, Subset, canTake}
 use Rattle.rules.specs.Block.{Block, Lent, blocks, illegal}
 use Rattle.rules.specs.Binary.{lineAnswer}
-use Rattle.line.specs.Filling.{Line, held, Shows, BlockAt, AgreesTo, Fits, Solution, pick, space}
+use Rattle.line.specs.Filling.{Line, held, Shows, BlockAt, AgreesTo, Fits, Solution, space}
 
 -- r says whether P
 pub record Decides (P : Type 0) (r : Bool) : Type 0 where
@@ -25,13 +25,9 @@ cellsTo (negsuc n) = 0
 
 -- ---- where a block can lie
 
--- each cell from a up to, not including, e can take the colour
-unfoldable pub AllTake : Line → ℕ → ℕ → ℕ → Type 0
-AllTake L a e colour = (i : ℕ) → a ≤ i → i < e → T (canTake (L .cell i) colour)
-
 -- the colour that a block gives: its own up to `stop`, then blank
 abbrev pub shade : ℕ → ℕ → ℕ → ℕ
-shade stop colour i = pick (ltb i stop) colour 1
+shade stop colour i = cond (ltb i stop) colour 1
 
 -- each cell from a up to, not including, e can take what h gives it
 unfoldable pub CanShow : Line → ℕ → ℕ → (ℕ → ℕ) → Type 0
@@ -39,7 +35,7 @@ CanShow L a e h = (i : ℕ) → a ≤ i → i < e → T (canTake (L .cell i) (h 
 
 -- where the block's own cells end, in what ends at `position`
 abbrev pub stopOf : ℕ → Bool → ℕ
-stopOf position trailing = pick trailing position (position + 1)
+stopOf position trailing = cond trailing position (position + 1)
 
 -- a block that starts at `start` can lie there: the start is not below zero, and the cells can show it
 pub record Lies (L : Line) (start : ℤ) (position colour : ℕ) (trailing : Bool) : Type 0 where

@@ -1,13 +1,14 @@
 // The dynamic solver: whether the first blocks fit into the first cells, and what they can give each cell, from right to left.
-// The line is held in one array, so that few arguments go through the cycle: see `Held` in specs/Filling.antt.
+// The line is held in one array, so that few arguments go through the cycle: see `held` in specs/Filling.antt.
 ghost use mathlib.Core.Path.{_≡_};
+ghost use mathlib.Core.Bool.{cond};
 ghost use Prim.Native.Nat.{ℕ, _+_, _*_, _-_, _^_, _≤_, _<_};
 ghost use lib.Dec.{eqb};
 ghost use lib.IntN.{pos, subℕ};
 ghost use lib.ListN.{length};
 ghost use Rattle.rules.specs.Colour.{canTake};
-ghost use Rattle.line.specs.Filling.{held, pick, trails, Fits};
-ghost use Rattle.line.specs.Steps.{Decides, cellsTo, AllTake, Lies, Added, shade, stopOf, Ask, Tell, EndsBlank, EndsBlock};
+ghost use Rattle.line.specs.Filling.{held, trails, Fits};
+ghost use Rattle.line.specs.Steps.{Decides, cellsTo, CanShow, Lies, Added, shade, stopOf, Ask, Tell, EndsBlank, EndsBlock};
 
 // Where the blocks' sizes and colours and their sums stand in the line's array. Its cells come first; its length and its number of blocks, last.
 pub(crate) const SIZES: usize = 64;
@@ -43,7 +44,7 @@ pub(crate) fn wide(x: u32) -> usize
 
 // The cells that a block takes: its own, and the blank that has to follow.
 pub(crate) fn room_of(size: u32, trailing: bool) -> usize
-    ensures { λ r. ⌜ (r ≡ size + pick trailing 1 0) × (r ≤ 2 ^ 32) ⌝ }
+    ensures { λ r. ⌜ (r ≡ size + cond trailing 1 0) × (r ≤ 2 ^ 32) ⌝ }
 {
     if trailing {
         size as usize + 1
@@ -71,7 +72,7 @@ fn left_of(start: usize) -> i64
 // Whether each cell from `start` up to `end` can take the colour.
 fn all_can_be(line: &[u32; 260], start: usize, end: usize, colour: u32) -> bool
     requires { ⌜ end ≤ 64 ⌝ }
-    ensures { λ r. ⌜ Decides (AllTake (held (now (line .entry))) start end colour) r ⌝ }
+    ensures { λ r. ⌜ Decides (CanShow (held (now (line .entry))) start end (λ i. colour)) r ⌝ }
 {
     let mut i = start;
     while i < end {

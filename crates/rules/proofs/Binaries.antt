@@ -1,15 +1,25 @@
--- The binary reading: a cell becomes 1 or 2 if all agreeing placements say so, else 0.
+-- A line's answer is what the rules say, and nothing else is; and the binary reading: a cell becomes 1 or 2 if all agreeing placements say so, else 0.
 use mathlib.Core.Path.{_≡_, refl, ap, _∙_, subst}
 use mathlib.Core.Logic.{_↔_}
 use mathlib.Core.List.{List, map}
+use mathlib.Core.Option.{Option}
 use Prim.Native.Nat.{ℕ, zero, suc, _^_, _≤_, _<_}
 use native.Mathlib.Omega.{arith}
 use lib.ListN.{length, getD, List·getD-map}
 use Rattle.rules.specs.Colour.{Has, Subset}
-use Rattle.rules.specs.Answer.{Fitting, Exact, Proper}
-use Rattle.rules.specs.Binary.{setOf, cellOf}
+use Rattle.rules.specs.Answer.{Fitting, Exact, Answers, answer, Proper}
+use Rattle.rules.specs.Block.{Block}
+use Rattle.rules.specs.Placement.{Placement, placements}
+use Rattle.rules.specs.Binary.{setOf, cellOf, lineAnswer}
 use Rattle.rules.proofs.Colours.{has-pow, has-pow-only, subset-antisym, pow-subset}
-use Rattle.rules.proofs.Answers.{full, proper-at, agrees-long}
+use Rattle.rules.proofs.Answers.{full, proper-at, agrees-long, answer-for, answer-only}
+use Rattle.rules.proofs.Placements.{placements-exact}
+
+pub line-right : (bs : List Block) (n : ℕ) (l : List ℕ) → Answers (Placement bs n) l (answer (placements bs n) l)
+line-right bs n l = answer-for (placements bs n) (placements-exact bs n) l
+
+pub line-only : (bs : List Block) (l : List ℕ) (o : Option (List ℕ)) → Answers (Placement bs (length l)) l o → lineAnswer bs l ≡ o
+line-only bs l o a = answer-only (Placement bs (length l)) l (lineAnswer bs l) o (line-right bs (length l) l) a
 
 pub cell-set : (c : ℕ) → c ≤ 2 → cellOf (setOf c) ≡ c
 cell-set zero h = refl

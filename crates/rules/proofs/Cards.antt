@@ -6,13 +6,12 @@ use Prim.Native.Nat.{ℕ, _*_, _<_}
 use lib.ListN.{length}
 use Rattle.rules.specs.Block.{Block, Legal}
 use Rattle.rules.specs.Answer.{Answers, Proper}
-use Rattle.rules.specs.Placement.{placements}
 use Rattle.rules.specs.declared.LinePosition.{LinePosition}
 use Rattle.rules.specs.Board.{row, column, len, On, Stable}
 use Rattle.rules.specs.Run.{Ends, fullRun, pointRun}
 use Rattle.rules.specs.Card.{Straight, solveStraight}
-use Rattle.rules.proofs.Placements.{placements-exact, placement-proper}
-use Rattle.rules.proofs.Answers.{answer-for}
+use Rattle.rules.proofs.Placements.{placement-proper}
+use Rattle.rules.proofs.Binaries.{line-right}
 use Rattle.rules.proofs.Runs.{full-right, point-right}
 
 module _ (w h : ℕ) (clue : LinePosition → List Block) (legal : (l : LinePosition) → Legal (clue l)) where
@@ -20,7 +19,7 @@ module _ (w h : ℕ) (clue : LinePosition → List Block) (legal : (l : LinePosi
   straight-proper l p d = placement-proper (legal l) p d
 
   pub straight-right : (l : LinePosition) (c : List ℕ) → Answers (Straight w h clue l) c (solveStraight w h clue l c)
-  straight-right l c = answer-for (placements (clue l) (len w h l)) (placements-exact (clue l) (len w h l)) c
+  straight-right l c = line-right (clue l) (len w h l) c
 
   pub straight-full : 0 < w → 0 < h → (b : List ℕ) → length b ≡ h * w → Ends (Straight w h clue) w h b (fullRun w h (solveStraight w h clue) b)
   straight-full wide high b size = full-right w h straight-proper wide high (solveStraight w h clue) straight-right b size

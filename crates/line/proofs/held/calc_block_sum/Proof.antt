@@ -1,10 +1,10 @@
 -- `held::calc_block_sum` meets its contract: the sums of the blocks passed are written.
 use Prim.Native.Nat.{_+_, _-_, _≤_, _<_}
 use mathlib.Core.Path.{_≡_, _∙_, ap}
-use mathlib.Core.Bool.{true≢false, false≢true}
+use mathlib.Core.Bool.{true≢false, false≢true, cond}
 use native.Mathlib.Omega.{arith}
 use lib.ListN.{length}
-use Rattle.line.specs.Filling.{held, pick}
+use Rattle.line.specs.Filling.{held}
 use Rattle.line.proofs.Stored.{Summing, summing-start, summing-more, size-same, end-space, space-mono}
 use borrow.Author.Needs.{needs}
 use Rattle.line.proofs.held.calc_block_sum.Statement.{statement}
@@ -116,7 +116,7 @@ loop-again c =
     let few : loop .b < 64 = omega (arith, p .few) in (
       omega arith,
       summing-more (loop .inv .1) few (c .room-of .result)
-          (c .room-of .ensures .0 ∙ ap (λ t. held (loop .line) .size (loop .b) + pick t 1 0) (c .before .trail-with-space .ensures))
+          (c .room-of .ensures .0 ∙ ap (λ t. held (loop .line) .size (loop .b) + cond t 1 0) (c .before .trail-with-space .ensures))
           (loop .start + wide .result)
           (ap (λ x. loop .start + x) (wide .ensures .0)) (omega (arith, p .short)) (omega (arith, loop .inv .1 .kept .long, p .long)),
     )

@@ -7,19 +7,19 @@ use native.Mathlib.Omega.{arith}
 use Prim.Native.Nat.{_-_, _≤_}
 use Rattle.rules.proofs.Tests.{below?}
 use Rattle.line.specs.Filling.{held}
-use Rattle.line.specs.Steps.{AllTake}
+use Rattle.line.specs.Steps.{CanShow}
 use Rattle.line.proofs.Fillings.{told}
 use Rattle.line.proofs.solver.all_can_be.Statement.{statement}
 use Rattle.line.proofs.solver.all_can_be.Tie as tie
 
 abbrev Inv-loop : tie.InvT-loop
-Inv-loop line start end colour i₀ i = (start ≤ i) × (end ≤ 64) × AllTake (held line) start i colour
+Inv-loop line start end colour i₀ i = (start ≤ i) × (end ≤ 64) × CanShow (held line) start i (λ j. colour)
 
 abbrev μ-loop : tie.MeasureT-loop
 μ-loop line start end colour i₀ i = end - i
 
 loop-holds : tie.Need-loop-holds Inv-loop μ-loop
-unfolding AllTake
+unfolding CanShow
 loop-holds c = (search needs, search needs, λ i u v. absurd (omega arith))
 
 mul-can-be : tie.Need-mul-can-be Inv-loop μ-loop
@@ -32,7 +32,7 @@ can-be-requires : tie.Need-can-be-requires Inv-loop μ-loop
 can-be-requires c κs = search needs
 
 returns : tie.Need-returns Inv-loop μ-loop
-unfolding AllTake
+unfolding CanShow
 returns c =
     let loop = c .before .before .before .before .loop in
     record {
@@ -47,7 +47,7 @@ loop-less : tie.Need-loop-less Inv-loop μ-loop
 loop-less c = search needs
 
 loop-again : tie.Need-loop-again Inv-loop μ-loop
-unfolding AllTake
+unfolding CanShow
 loop-again c =
     let l = c .before .before .before .before .loop in (
       search needs,
@@ -58,7 +58,7 @@ loop-again c =
     )
 
 returns-2 : tie.Need-returns-2 Inv-loop μ-loop
-unfolding AllTake
+unfolding CanShow
 returns-2 c = record {
   yes = λ e i u v. c .before .loop .inv .2 i u (omega arith);
   no = λ e. absurd (true≢false e);

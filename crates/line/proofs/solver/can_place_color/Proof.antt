@@ -9,7 +9,7 @@ use lib.IntN.{ℤ, pos}
 use Rattle.rules.specs.Colour.{canTake}
 use Rattle.rules.proofs.Tests.{below?}
 use Rattle.line.specs.Filling.{Line}
-use Rattle.line.specs.Steps.{Decides, AllTake, CanShow, Lies, shade, stopOf}
+use Rattle.line.specs.Steps.{Decides, CanShow, Lies, shade, stopOf}
 use Rattle.line.proofs.Ints.{natural, negative, cast, cast-fits}
 use Rattle.line.proofs.Fillings.{told}
 use borrow.Author.Needs.{needs}
@@ -26,9 +26,9 @@ module _ (L : Line) (z : ℤ) (position colour : ℕ) where
 
   module _ (s : ℕ) (is : z ≡ pos s) where
     -- with its blank
-    trailing-lies : {r : Bool} → T (canTake (L .cell position) 1) → Decides (AllTake L s position colour) r
+    trailing-lies : {r : Bool} → T (canTake (L .cell position) 1) → Decides (CanShow L s position (λ i. colour)) r
         → Decides (Lies L z position colour true) r
-    unfolding CanShow AllTake
+    unfolding CanShow
     trailing-lies b D = record {
       yes = λ e. record {
         at = s;
@@ -45,8 +45,8 @@ module _ (L : Line) (z : ℤ) (position colour : ℕ) where
     no-blank l n y = n (rw (le-ltb position position (omega arith)) at (place s is y position l (omega arith)))
 
     -- with none
-    plain-lies : {r : Bool} → Decides (AllTake L s (position + 1) colour) r → Decides (Lies L z position colour false) r
-    unfolding CanShow AllTake
+    plain-lies : {r : Bool} → Decides (CanShow L s (position + 1) (λ i. colour)) r → Decides (Lies L z position colour false) r
+    unfolding CanShow
     plain-lies D = record {
       yes = λ e. record { at = s; is = is; show = λ i u v. rw (lt-ltb i (position + 1) v) (D .yes e i u v) };
       no = λ e y. D .no e (λ i u v. rw (lt-ltb i (position + 1) v) at (place s is y i u v));
