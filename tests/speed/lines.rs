@@ -14,8 +14,28 @@ use nonogrid::{
 };
 
 extern "C" {
-    fn sp_solve_line(cells: *const u32, cells_len: usize, sizes: *const u32, sizes_len: usize, colours: *const u32, colours_len: usize, memo: *mut u8, memo_len: usize, out: *mut u32, out_len: usize) -> u32;
-    fn sp_solve_binary_line(cells: *const u32, cells_len: usize, sizes: *const u32, sizes_len: usize, memo: *mut u8, memo_len: usize, out: *mut u32, out_len: usize) -> u32;
+    fn sp_solve_line(
+        cells: *const u32,
+        cells_len: usize,
+        sizes: *const u32,
+        sizes_len: usize,
+        colours: *const u32,
+        colours_len: usize,
+        memo: *mut u8,
+        memo_len: usize,
+        out: *mut u32,
+        out_len: usize,
+    ) -> u32;
+    fn sp_solve_binary_line(
+        cells: *const u32,
+        cells_len: usize,
+        sizes: *const u32,
+        sizes_len: usize,
+        memo: *mut u8,
+        memo_len: usize,
+        out: *mut u32,
+        out_len: usize,
+    ) -> u32;
 }
 
 const SEED: u64 = 7303;
@@ -112,7 +132,12 @@ fn case(random: &mut Random, shape: &str, known: &str, length: usize, binary: bo
 type Given<B> = (ReadRc<Description<B>>, ReadRc<[<B as Block>::Color]>);
 
 fn coloured(case: &Case) -> Given<ColoredBlock> {
-    let blocks = case.sizes.iter().zip(&case.colours).map(|(&size, &color)| ColoredBlock::from_size_and_color(size as usize, color)).collect();
+    let blocks = case
+        .sizes
+        .iter()
+        .zip(&case.colours)
+        .map(|(&size, &color)| ColoredBlock::from_size_and_color(size as usize, color))
+        .collect();
     let cells: Vec<MultiColor> = case.cells.iter().map(|&c| MultiColor(c)).collect();
     (ReadRc::new(Description::new(blocks)), cells.into())
 }
@@ -147,11 +172,35 @@ struct Port {
 impl Port {
     fn coloured(&mut self, case: &Case) -> u32 {
         let n = case.cells.len();
-        unsafe { sp_solve_line(case.cells.as_ptr(), n, case.sizes.as_ptr(), case.sizes.len(), case.colours.as_ptr(), case.colours.len(), self.memo.as_mut_ptr(), self.memo.len(), self.out.as_mut_ptr(), n) }
+        unsafe {
+            sp_solve_line(
+                case.cells.as_ptr(),
+                n,
+                case.sizes.as_ptr(),
+                case.sizes.len(),
+                case.colours.as_ptr(),
+                case.colours.len(),
+                self.memo.as_mut_ptr(),
+                self.memo.len(),
+                self.out.as_mut_ptr(),
+                n,
+            )
+        }
     }
     fn binary(&mut self, cells: &[u32], case: &Case) -> u32 {
         let n = cells.len();
-        unsafe { sp_solve_binary_line(cells.as_ptr(), n, case.sizes.as_ptr(), case.sizes.len(), self.memo.as_mut_ptr(), self.memo.len(), self.out.as_mut_ptr(), n) }
+        unsafe {
+            sp_solve_binary_line(
+                cells.as_ptr(),
+                n,
+                case.sizes.as_ptr(),
+                case.sizes.len(),
+                self.memo.as_mut_ptr(),
+                self.memo.len(),
+                self.out.as_mut_ptr(),
+                n,
+            )
+        }
     }
 }
 
@@ -189,8 +238,13 @@ fn codes(cells: &[BinaryColor]) -> Vec<u32> {
 /// One row: the crate's time and the port's, on the same lines.
 fn row(rounds: usize, kind: &str, shape: &str, known: &str, length: usize) -> (f64, f64) {
     let mut random = Random(SEED ^ ((length as u64) << 8));
-    let cases: Vec<Case> = (0..LINES).map(|_| case(&mut random, shape, known, length, kind == "binary")).collect();
-    let mut port = Port { memo: vec![0xa5; 4160], out: vec![0xdead_beef; length] };
+    let cases: Vec<Case> = (0..LINES)
+        .map(|_| case(&mut random, shape, known, length, kind == "binary"))
+        .collect();
+    let mut port = Port {
+        memo: vec![0xa5; 4160],
+        out: vec![0xdead_beef; length],
+    };
     if kind == "binary" {
         let given: Vec<_> = cases.iter().map(binary).collect();
         let cells: Vec<Vec<u32>> = given.iter().map(|g| codes(&g.1)).collect();
@@ -222,7 +276,9 @@ fn row(rounds: usize, kind: &str, shape: &str, known: &str, length: usize) -> (f
 }
 
 fn main() {
-    let rounds = std::env::args().nth(1).map_or(100, |w| w.parse().expect("a number of rounds"));
+    let rounds = std::env::args()
+        .nth(1)
+        .map_or(100, |w| w.parse().expect("a number of rounds"));
     println!("| cells | kind | blocks | line | crate, ns | port, ns | crate / port |");
     println!("|---|---|---|---|---|---|---|");
     let (mut logs, mut rows) = (0.0, 0);
