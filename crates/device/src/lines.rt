@@ -1,4 +1,4 @@
-// One line. The answer is document 01's number; include/scorepuddle.h has the declarations.
+// One line solved. The answer is document 01's number.
 use line::answer_number;
 use line::binary;
 use line::multicolor;

@@ -14,7 +14,7 @@ use lib.Seq.{getD-set-same, getD-set-other}
 use Rattle.rules.proofs.Tests.{below?}
 use Rattle.rules.proofs.Colours.{has-or}
 use Rattle.line.specs.Filling.{Line, taken, space, BlockAt, Shows, edge, blank, block, AgreesTo, Fits, Solution}
-use Rattle.line.specs.Steps.{AllSized, Decides, Added, Covered, Grows, Answer, Rest, Good, Legal, Tell, EndsBlank, EndsBlock, entryOf}
+use Rattle.line.specs.Steps.{Decides, Added, Covered, Grows, Answer, Rest, Good, LegalLine, Tell, EndsBlank, EndsBlock, entryOf}
 use Rattle.line.proofs.Added.{added-grows, added-covers}
 
 -- a test's result says whether it holds
@@ -53,8 +53,7 @@ module _ (L : Line) where
   fits-as F e = record { shows = shows-as (F .shows) e; agrees = λ i l. rw (e i l) (F .agrees i l) }
 
   -- no cell holds no block
-  pub no-cells : {f : ℕ → ℕ} {p b : ℕ} → Legal L → Shows L f p b → p ≡ 0 → b ≡ 0
-  unfolding AllSized
+  pub no-cells : {f : ℕ → ℕ} {p b : ℕ} → LegalLine L → Shows L f p b → p ≡ 0 → b ≡ 0
   no-cells G edge z = refl
   no-cells G (blank s q x) z = omega arith
   no-cells G (block {b = b} s q B) z = omega (arith, B .ends, G .sized b (B .within))
@@ -69,7 +68,7 @@ module _ (L : Line) where
   space-le zero s = omega arith
   space-le (suc c) s = omega (arith, taken-le s)
 
-  pub at-edge : (p b : ℕ) (out : List ℕ) → Legal L → p ≡ 0 → Answer (Fits L p b) p (eqb b 0) out
+  pub at-edge : (p b : ℕ) (out : List ℕ) → LegalLine L → p ≡ 0 → Answer (Fits L p b) p (eqb b 0) out
   unfolding Covered AgreesTo
   at-edge p b out G z = record {
     covered = λ f F i l. absurd (omega arith);
@@ -219,7 +218,7 @@ module _ (L : Line) where
   }
 
   -- the memo learns an answer
-  pub learn : (at b v : ℕ) {r : Bool} {out memo out′ : List ℕ} → at < L .length → b ≤ L .count → Legal L → eqb v 2 ≡ r
+  pub learn : (at b v : ℕ) {r : Bool} {out memo out′ : List ℕ} → at < L .length → b ≤ L .count → LegalLine L → eqb v 2 ≡ r
       → Tell L (Fits L (at + 1) b) (at + 1) r out memo out′ → Tell L (Fits L (at + 1) b) (at + 1) r out (set memo (entryOf at b) v) out′
   learn at b v {r} {out} {memo} {out′} an bk legal e T = record {
     good = record {

@@ -37,7 +37,8 @@ module _ (cells : List ℕ) (b : Lent) {memo out m x : List ℕ} where
   pub line-eight : SolvesLine cells b memo out 8 m x → Refused (Placement (b .list) (length cells)) cells
   line-eight s =
       subst (Answers (Placement (b .list) (length cells)) cells)
-      (told-eight (verdict (lineRules (length cells) b (length memo) (length out))) (lineAnswer (b .list) cells) (s .tells)) (line-right (b .list) (length cells) cells)
+      (told-eight (verdict (lineRules (length cells) b (length memo) (length out))) (lineAnswer (b .list) cells) (s .tells))
+      (line-right (b .list) (length cells) cells)
 
   pub line-refused : (n : ℕ) → verdict (lineRules (length cells) b (length memo) (length out)) ≡ Fine
       → Refused (Placement (b .list) (length cells)) cells → SolvesLine cells b memo out n m x → n ≡ 8
@@ -46,7 +47,8 @@ module _ (cells : List ℕ) (b : Lent) {memo out m x : List ℕ} where
   pub line-zero : SolvesLine cells b memo out 0 m x → Exact (Placement (b .list) (length cells)) cells x
   line-zero s =
       let t = told-zero (verdict (lineRules (length cells) b (length memo) (length out))) (lineAnswer (b .list) cells) out (s .tells) in
-      subst (Answers (Placement (b .list) (length cells)) cells) (t .1 ∙ ap (λ l. some l) (sym (s .leaves))) (line-right (b .list) (length cells) cells)
+      subst (Answers (Placement (b .list) (length cells)) cells) (t .1 ∙ ap (λ l. some l) (sym (s .leaves)))
+      (line-right (b .list) (length cells) cells)
 
 -- ---- a binary line, of which the sets are read
 
@@ -77,14 +79,16 @@ module _ (cells sizes : List ℕ) where
 
     solved-sets : SolvesBinaryLine cells sizes memo out 0 m x → (u : List ℕ) × (Exact P sets u × (x ≡ map cellOf u))
     solved-sets s =
-        let t = told-zero (verdict (binaryRules cells sizes (length memo) (length out))) (readBack (lineAnswer (map black sizes) sets)) out (s .tells) in
+        let t = told-zero (verdict (binaryRules cells sizes (length memo) (length out))) (readBack (lineAnswer (map black sizes) sets)) out
+        (s .tells) in
         let r = read-back (lineAnswer (map black sizes) sets) x (t .1 ∙ ap (λ l. some l) (sym (s .leaves))) in
         (r .0, (subst (Answers P sets) (r .1 .0) (line-right (map black sizes) (length sets) sets), r .1 .1))
 
     module _ (s : SolvesBinaryLine cells sizes memo out 0 m x) (i : ℕ) (h : i < length cells) where
       proper : (p : List ℕ) → P p → Proper p
       proper p l =
-          let t = told-zero (verdict (binaryRules cells sizes (length memo) (length out))) (readBack (lineAnswer (map black sizes) sets)) out (s .tells) in
+          let t = told-zero (verdict (binaryRules cells sizes (length memo) (length out))) (readBack (lineAnswer (map black sizes) sets)) out
+          (s .tells) in
           placement-proper (test-legal (map black sizes) (binary-ready cells sizes memo out (t .0) .legal)) p l
 
       -- white exactly if they all say so

@@ -9,7 +9,7 @@ use lib.IntN.{ℤ, pos, subℕ}
 use Rattle.rules.specs.Colour.{canTake}
 use Rattle.rules.proofs.Tests.{below?}
 use Rattle.line.specs.Filling.{Line, trails, gap, AgreesTo}
-use Rattle.line.specs.Steps.{AllSized, shade, stopOf, CanShow, Lies, Legal, EndsBlank, EndsBlock}
+use Rattle.line.specs.Steps.{shade, stopOf, CanShow, Lies, LegalLine, EndsBlank, EndsBlock}
 use Rattle.line.proofs.Ints.{sub-is, is-sub}
 use Rattle.line.proofs.Fillings.{Piece}
 
@@ -26,7 +26,7 @@ stop-is false at x e = omega arith
 
 -- what the code knows of the last block where it has found its start
 pub record Found (L : Line) (at b : ℕ) (t : Bool) (room : ℕ) (z : ℤ) : Type 0 where
-  pub legal : Legal L
+  pub legal : LegalLine L
   pub some : 1 ≤ b
   pub within : b ≤ L .count
   pub trail : t ≡ trails L (b - 1)
@@ -74,7 +74,6 @@ module _ {L : Line} {at b : ℕ} {t : Bool} {room : ℕ} {z : ℤ} (F : Found L 
     fills = is-sub (at + 1) room s (sym (F .start-is) ∙ zs)
 
     pub starts : s ≤ at
-    unfolding AllSized
     starts = omega (arith, fills, F .legal .sized (b - 1) (omega arith))
 
     pub block-piece : CanShow L s (at + 1) (shade (stopOf at t) colour) → Piece L (EndsBlock L at b) s (b - 1) (at + 1) (shade (stopOf at t) colour)

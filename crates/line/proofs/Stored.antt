@@ -114,6 +114,14 @@ module _ (L M : Line) (k : ℕ) (sizes : (b : ℕ) → b < k → M .size b ≡ L
 
 -- ---- the sums
 
+-- what stays beside them
+module _ {xs ys : List ℕ} (K : KeptBut xs ys) where
+  pub kept-size : (b : ℕ) → b < 64 → held ys .size b ≡ held xs .size b
+  kept-size b h = K .same (64 + b) (λ u v. omega arith)
+
+  pub kept-colour : (b : ℕ) → b ≤ 64 → held ys .colour b ≡ held xs .colour b
+  kept-colour b h = K .same (128 + b) (λ u v. omega arith)
+
 -- after b blocks: the packing has come to `start`, and the sums up to there are written
 pub record Summing (xs ys : List ℕ) (start b : ℕ) : Type 0 where
   pub kept : KeptBut xs ys
@@ -132,11 +140,10 @@ summing-start xs z = record {
 module _ {xs ys : List ℕ} {start b : ℕ} (S : Summing xs ys start b) (few : b < 64) where
   -- block b is as it was
   pub size-same : held ys .size b ≡ held xs .size b
-  size-same = S .kept .same (64 + b) (λ u v. omega arith)
+  size-same = kept-size (S .kept) b few
 
   trails-same : trails (held ys) b ≡ trails (held xs) b
-  trails-same =
-      ap₂ eqb (S .kept .same (128 + (b + 1)) (λ u v. omega arith)) (S .kept .same (128 + b) (λ u v. omega arith))
+  trails-same = trails-as (held xs) (held ys) 64 (kept-size (S .kept)) (kept-colour (S .kept)) b few
 
   -- its packing ends at the least space of the blocks up to it
   pub end-space : start + held ys .size b ≡ space (held xs) (b + 1)

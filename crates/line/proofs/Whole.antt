@@ -23,10 +23,9 @@ use Rattle.rules.proofs.Blocks.{test-legal}
 use Rattle.rules.proofs.Binaries.{line-only}
 use Rattle.rules.proofs.Boards.{getD-tabulate}
 use Rattle.line.specs.Filling.{Line, held, space, Fits, Solution}
-use Rattle.line.specs.Steps.{AllSized, SumsTo, Covered, Cleared, Rest, Ask, Tell, Holds, Summable, KeptBut, Solvable, Tried, outcome, entryOf}
-use Rattle.line.specs.Steps.{Legal as LegalLine}
+use Rattle.line.specs.Steps.{LegalLine, Covered, Cleared, Rest, Ask, Tell, Holds, Summable, KeptBut, Solvable, Tried, outcome, entryOf}
 use Rattle.line.proofs.Fillings.{space-le}
-use Rattle.line.proofs.Stored.{space-as}
+use Rattle.line.proofs.Stored.{space-as, kept-size, kept-colour}
 use Rattle.line.proofs.Bridge.{PiecesOf, fit-solution, solution-fit}
 
 -- ---- the pieces of blocks in two lists, by their numbers
@@ -102,10 +101,10 @@ module _ {n : ℕ} {sizes colours xs memo work ys : List ℕ} (S : Solvable n si
     cell-is i h = K .same i (λ u v. omega arith) ∙ H .cell-is i h
 
     size-same : (b : ℕ) → b < length sizes → L .size b ≡ held ys .size b
-    size-same b h = K .same (64 + b) (λ u v. omega (arith, S .fits .few))
+    size-same b h = kept-size K b (omega (arith, S .fits .few))
 
     colour-same : (b : ℕ) → b ≤ length sizes → L .colour b ≡ held ys .colour b
-    colour-same b h = K .same (128 + b) (λ u v. omega (arith, S .fits .few))
+    colour-same b h = kept-colour K b (omega (arith, S .fits .few))
 
     pieces-are : PiecesOf L (pieces bs)
     pieces-are = record {
@@ -118,8 +117,7 @@ module _ {n : ℕ} {sizes colours xs memo work ys : List ℕ} (S : Solvable n si
             H .size-is b v,
             colour-same b (omega arith),
             H .colour-is b (omega arith),
-            colour-same (b + 1)
-                (omega arith),
+            colour-same (b + 1) (omega arith),
             H .colour-is (b + 1) (omega arith),
           ));
     }
@@ -196,7 +194,6 @@ module _ {n : ℕ} {sizes colours xs memo work ys : List ℕ} (S : Solvable n si
     -- what the solver is asked
     module _ (sums : (b : ℕ) → b ≤ length sizes → L .sum b ≡ space (held ys) b - 1) where
       legal-line : LegalLine L
-      unfolding AllSized SumsTo
       legal-line = record {
         short = omega (arith, length-is, S .fits .short);
         few = omega (arith, count-is, S .fits .few);

@@ -82,24 +82,16 @@ pub record Good (L : Line) (memo out : List ℕ) : Type 0 where
       → Answer (Fits L (at + 1) b) (at + 1) (eqb (getD memo (entryOf at b) 0) 2) out
   pub sound : (i : ℕ) → i < L .length → (k : ℕ) → Has (getD out i 0) k → (f : ℕ → ℕ) × (Solution L f × Has (f i) k)
 
--- up to n blocks, the sums are the least space less one
-unfoldable pub SumsTo : Line → ℕ → Type 0
-SumsTo L n = (b : ℕ) → b ≤ n → L .sum b ≡ space L b - 1
-
--- each block has at least one cell
-unfoldable pub AllSized : Line → Type 0
-AllSized L = (b : ℕ) → b < L .count → 1 ≤ L .size b
-
--- the line is one that the solver takes
-pub record Legal (L : Line) : Type 0 where
+-- the line is one that the solver takes: each block has at least one cell, and the sums are the least space less one
+pub record LegalLine (L : Line) : Type 0 where
   pub short : L .length ≤ 64
   pub few : L .count ≤ 64
-  pub sized : AllSized L
-  pub sums : SumsTo L (L .count)
+  pub sized : (b : ℕ) → b < L .count → 1 ≤ L .size b
+  pub sums : (b : ℕ) → b ≤ L .count → L .sum b ≡ space L b - 1
 
 -- what each function of the cycle asks, of the first p cells and the first b blocks
 pub record Ask (L : Line) (p b : ℕ) (memo out : List ℕ) : Type 0 where
-  pub legal : Legal L
+  pub legal : LegalLine L
   pub here : p ≤ L .length
   pub block : b ≤ L .count
   pub good : Good L memo out

@@ -5,17 +5,16 @@ use rules::judge::judge_black;
 use rules::judge::judge_blocks;
 use rules::judge::judge_length;
 ghost use mathlib.Core.Path.{_≡_};
-ghost use mathlib.Core.Bool.{_&&_};
 ghost use mathlib.Core.List.{_++_};
-ghost use lib.Dec.{eqb, ltb, leb};
+ghost use lib.Dec.{ltb};
 ghost use Rattle.rules.specs.Block.{coloured, binary};
 ghost use Rattle.rules.specs.Ranges.{anyOf};
 ghost use Rattle.rules.specs.Refusal.{verdict, blockRules};
-ghost use Rattle.line.specs.Calls.{lineRules, cellRules, binaryRules};
+ghost use Rattle.line.specs.Calls.{roomFor, lineRules, cellRules, binaryRules};
 
 // An output as long as the line, and 65 × 64 bytes of memo.
 fn has_room(length: usize, memo: usize, out: usize) -> bool
-    ensures { λ r. ⌜ r ≡ (eqb out length && leb 4160 memo) ⌝ }
+    ensures { λ r. ⌜ r ≡ roomFor length memo out ⌝ }
 {
     if out != length {
         return false;

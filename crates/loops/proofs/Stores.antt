@@ -15,10 +15,6 @@ pub sets-before : (vs l : List ℕ) (i k d : ℕ) → k < i → getD (sets l i v
 sets-before [] l i k d h = refl
 sets-before (v ∷ vs) l i k d h = sets-before vs (set l i v) (suc i) k d (omega arith) ∙ getD-set-other l i k v d (λ e. omega arith)
 
-pub sets-after : (vs l : List ℕ) (i k d : ℕ) → i + length vs ≤ k → getD (sets l i vs) k d ≡ getD l k d
-sets-after [] l i k d h = refl
-sets-after (v ∷ vs) l i k d h = sets-after vs (set l i v) (suc i) k d (omega arith) ∙ getD-set-other l i k v d (λ e. omega arith)
-
 pub sets-at : (vs l : List ℕ) (i j d : ℕ) → j < length vs → i + length vs ≤ length l → getD (sets l i vs) (i + j) d ≡ getD vs j d
 sets-at [] l i j d h r = absurd (omega arith)
 sets-at (v ∷ vs) l i zero d h r =

@@ -2,9 +2,11 @@
 use borrow.Author.Tests.{not-true, not-false}
 use mathlib.Core.Path.{sym}
 use native.Mathlib.Omega.{arith}
-use lib.ListN.{length}
+use lib.ListN.{length, length-map}
+use mathlib.Core.List.{map}
+use Rattle.rules.specs.Binary.{setOf}
 use Rattle.rules.proofs.Blocks.{blacks-length}
-use Rattle.line.proofs.Told.{few-black, binary-solvable, binary-none, binary-some}
+use Rattle.line.proofs.Told.{few-black, blacks, sets-ready, line-solvable, line-told, binary-told, works-none, works-some}
 use borrow.Author.Needs.{needs}
 use Rattle.line.proofs.binary.solve_legal.Statement.{statement}
 use Rattle.line.proofs.binary.solve_legal.Tie as tie
@@ -16,20 +18,20 @@ array-share-prefix-black : tie.Need-array-share-prefix-black
 array-share-prefix-black c =
     let pre = c .before .before .before .before .before .before .pre in
     let args = c .before .before .before .before .before .before .args in few-black (args .cells .now) (args .sizes .now) (pre)
-    (c .hold-sets .ensures)
 
 slice-aggregate-try-solve : tie.Need-slice-aggregate-try-solve
 slice-aggregate-try-solve c =
     let pre = c .before .before .before .before .before .before .before .pre in
     let args = c .before .before .before .before .before .before .before .args in
-    sym (blacks-length (length (args .sizes .now)) 64 (few-black (args .cells .now) (args .sizes .now) (pre) (c .before .hold-sets .ensures)))
+    sym (blacks-length (length (args .sizes .now)) 64 (few-black (args .cells .now) (args .sizes .now) (pre)))
 
 try-solve-requires : tie.Need-try-solve-requires
 try-solve-requires c κs =
     let pre = c .before .before .before .before .before .before .before .before .before .before .pre in
     let hold-sets = c .before .before .before .before .hold-sets in
-    let args = c .before .before .before .before .before .before .before .before .before .before .args in binary-solvable (args .cells .now)
-    (args .sizes .now) (pre) (hold-sets .ensures)
+    let cells = c .before .before .before .before .before .before .before .before .before .before .args .cells .now in
+    let sizes = c .before .before .before .before .before .before .before .before .before .before .args .sizes .now in
+    line-solvable (map setOf cells) sizes (blacks sizes) (sets-ready cells sizes (pre)) (sym (length-map cells setOf)) (hold-sets .ensures)
 
 same-length : tie.Need-same-length
 same-length c = search needs
@@ -39,9 +41,12 @@ returns c =
     let pre = c .before .before .before .before .before .before .before .before .before .before .before .before .before .before .pre in
     let hold-sets = c .before .before .before .before .before .before .before .before .hold-sets in
     let try-solve = c .before .before .before .try-solve in
-    let args = c .before .before .before .before .before .before .before .before .before .before .before .before .before .before .args in
-    binary-none (args .cells .now) (args .sizes .now) (pre) (hold-sets .ensures)
-    (rw (not-true (try-solve .result) (c .if1 .taken)) at (try-solve .ensures))
+    let cells = c .before .before .before .before .before .before .before .before .before .before .before .before .before .before .args .cells .now in
+    let sizes = c .before .before .before .before .before .before .before .before .before .before .before .before .before .before .args .sizes .now in
+    works-none
+    (binary-told cells sizes (pre)
+    (line-told (map setOf cells) sizes (blacks sizes) (sets-ready cells sizes (pre)) (sym (length-map cells setOf)) (hold-sets .ensures)
+    (rw (not-true (try-solve .result) (c .if1 .taken)) at (try-solve .ensures))))
 
 write-cells-requires : tie.Need-write-cells-requires
 write-cells-requires c κs =
@@ -62,9 +67,13 @@ returns-2 c =
     let try-solve = c .before .before .before .before .before .before .before .before .try-solve in
     let if1 = c .before .before .before .before .before .if1 in
     let write-cells = c .before .before .write-cells in
-    let args = c .before .before .before .before .before .before .before .before .before .before .before .before .before .before .before .before .before .before .before .args in
-    binary-some (args .cells .now) (args .sizes .now) (pre) (hold-sets .ensures)
-    (rw (not-false (try-solve .result) (if1 .left)) at (try-solve .ensures)) (write-cells .ensures)
+    let cells = c .before .before .before .before .before .before .before .before .before .before .before .before .before .before .before .before .before .before .before .args .cells .now in
+    let sizes = c .before .before .before .before .before .before .before .before .before .before .before .before .before .before .before .before .before .before .before .args .sizes .now in
+    works-some
+    (binary-told cells sizes (pre)
+    (line-told (map setOf cells) sizes (blacks sizes) (sets-ready cells sizes (pre)) (sym (length-map cells setOf)) (hold-sets .ensures)
+    (rw (not-false (try-solve .result) (if1 .left)) at (try-solve .ensures))))
+    (write-cells .ensures)
 
 pub solve-legal-spec : {M : Type 1} → statement M
 solve-legal-spec =

@@ -1,7 +1,8 @@
 -- `multicolor::solve_legal` meets its contract: the cells are held, and what the solver finds is copied.
 use borrow.Author.Tests.{not-true, not-false}
+use mathlib.Core.Path.{refl}
 use native.Mathlib.Omega.{arith}
-use Rattle.line.proofs.Told.{line-solvable, line-none, line-some}
+use Rattle.line.proofs.Told.{line-solvable, line-told, works-none, works-some}
 use borrow.Author.Needs.{needs}
 use Rattle.line.proofs.multicolor.solve_legal.Statement.{statement}
 use Rattle.line.proofs.multicolor.solve_legal.Tie as tie
@@ -14,7 +15,7 @@ try-solve-requires c κs =
     let pre = c .before .before .before .before .before .before .before .before .before .before .pre in
     let copy-at = c .before .before .before .copy-at in
     let args = c .before .before .before .before .before .before .before .before .before .before .args in line-solvable (args .cells .now)
-    (args .sizes .now) (args .colours .now) (pre) (copy-at .ensures)
+    (args .sizes .now) (args .colours .now) (pre) refl (copy-at .ensures)
 
 same-length : tie.Need-same-length
 same-length c = search needs
@@ -25,8 +26,9 @@ returns c =
     let copy-at = c .before .before .before .before .before .before .before .copy-at in
     let try-solve = c .before .before .before .try-solve in
     let args = c .before .before .before .before .before .before .before .before .before .before .before .before .before .before .args in
-    line-none (args .cells .now) (args .sizes .now) (args .colours .now) (pre) (copy-at .ensures)
-    (rw (not-true (try-solve .result) (c .if1 .taken)) at (try-solve .ensures))
+    works-none
+    (line-told (args .cells .now) (args .sizes .now) (args .colours .now) (pre) refl (copy-at .ensures)
+    (rw (not-true (try-solve .result) (c .if1 .taken)) at (try-solve .ensures)))
 
 copy-out-requires : tie.Need-copy-out-requires
 copy-out-requires c κs =
@@ -48,8 +50,10 @@ returns-2 c =
     let if1 = c .before .before .before .before .before .if1 in
     let copy-out = c .before .before .copy-out in
     let args = c .before .before .before .before .before .before .before .before .before .before .before .before .before .before .before .before .before .before .before .args in
-    line-some (args .cells .now) (args .sizes .now) (args .colours .now) (pre) (copy-at .ensures)
-    (rw (not-false (try-solve .result) (if1 .left)) at (try-solve .ensures)) (copy-out .ensures)
+    works-some
+    (line-told (args .cells .now) (args .sizes .now) (args .colours .now) (pre) refl (copy-at .ensures)
+    (rw (not-false (try-solve .result) (if1 .left)) at (try-solve .ensures)))
+    (copy-out .ensures)
 
 pub solve-legal-spec : {M : Type 1} → statement M
 solve-legal-spec =
