@@ -12,7 +12,8 @@ use native.Mathlib.Nat.{suc-mul}
 use native.Mathlib.Omega.{arith}
 use Rattle.clue.proofs.Leads.{entries-length}
 use Rattle.clue.proofs.Searched.{fitted}
-use Rattle.clue.specs.Steps.{entries, per, Grid, GridRoom, CluesPut, ColoursPut}
+use Rattle.clue.specs.Steps.{entries, per, GridRoom, CluesPut, ColoursPut}
+use Rattle.grid.specs.Grid.{Grid}
 use Rattle.clue.specs.declared.Part.{Part}
 use Rattle.clue.specs.declared.Part.the-variants.{Colour, Count, Size}
 use Rattle.loops.proofs.Going.{written-sets, put-count, put-written}
@@ -20,11 +21,11 @@ use Rattle.loops.specs.Put.{Put}
 use Rattle.rules.proofs.Boards.{length-line}
 use Rattle.rules.proofs.Replies.{writes-done, blocks-done}
 use Rattle.rules.proofs.Tests.{both-true, rooms}
-use Rattle.rules.proofs.Verdicts.{fine-cons, append-fine, append-parts, length-fine}
+use Rattle.rules.proofs.Verdicts.{sides-fine, fine-cons, append-fine, append-parts, length-fine}
 use Rattle.rules.specs.Block.{Block, sizesOf, coloursOf}
 use Rattle.rules.specs.Board.{row, column, len, lineOf}
 use Rattle.rules.specs.Card.{linesFrom, rowClues, columnClues, gathered, countOf}
-use Rattle.rules.specs.Refusal.{Rule, _when_, verdict, lengthRules, Writes, WritesBlocks}
+use Rattle.rules.specs.Refusal.{Rule, _when_, verdict, lengthRules, sideRules, Writes, WritesBlocks}
 use Rattle.rules.specs.declared.LinePosition.{LinePosition}
 use Rattle.rules.specs.declared.Refusal.{Refusal}
 use Rattle.rules.specs.declared.Refusal.the-variants.{BadRoom, BadCode}
@@ -114,16 +115,6 @@ module _ (e w h : ℕ) (b : List ℕ) {rules : List Rule} (q : verdict rules ≡
 
 -- ---- a grid: the rules
 
-abbrev sideRules : ℕ → ℕ → List Rule
-sideRules w h = lengthRules w ++ lengthRules h
-
-pub sides : (w h : ℕ) → verdict (sideRules w h) ≡ Fine → (0 < w) × (w ≤ 64) × (0 < h) × (h ≤ 64)
-sides w h q =
-    let a = append-parts (lengthRules w) (lengthRules h) q in
-    let x = length-fine w (a .0) in
-    let y = length-fine h (a .1) in
-    (x .0, x .1, y .0, y .1)
-
 pub grid-same : (w h : ℕ) {f b t m : Bool} → verdict (sideRules w h) ≡ Fine → t ≡ f → m ≡ b → verdict (gridRules w h f b) ≡ verdict (codeRules t m)
 grid-same w h {f} {b} q te me = append-fine (sideRules w h) (codeRules f b) q ∙ ap₂ (λ x y. verdict (codeRules x y)) (sym te) (sym me)
 
@@ -131,7 +122,7 @@ grid-known : (w h : ℕ) (b rc rs cc cs : List ℕ) → verdict (sideRules w h) 
     → gridFits w h (length b) (length rc) (length rs) (length cc) (length cs) ≡ true
     → Grid w h b × GridRoom w h rc rs cc cs
 grid-known w h b rc rs cc cs q e =
-    let s = sides w h q in
+    let s = sides-fine w h q in
     let f = fitted w h (length b) (length rc) (length rs) (length cc) (length cs) e in (
       record { wide = s .0; wide-most = s .1; high = s .2; high-most = s .3; size = f .exact },
       record { row-counts = f .row-counts; row-sizes = f .row-sizes; column-counts = f .column-counts; column-sizes = f .column-sizes },

@@ -8,7 +8,7 @@ use lib.ListN.{length}
 use Rattle.rules.specs.Block.{Block, sizesOf, coloursOf}
 use Rattle.rules.specs.Clue.{clue, badCode, mixedCode}
 use Rattle.rules.specs.Card.{rowClues, columnClues, gathered, countOf}
-use Rattle.rules.specs.Refusal.{refusalNumber, Rule, _when_, verdict, lengthRules, reply, left, Writes, WritesBlocks}
+use Rattle.rules.specs.Refusal.{refusalNumber, Rule, _when_, verdict, lengthRules, sideRules, reply, left, Writes, WritesBlocks}
 use Rattle.rules.specs.declared.Refusal.the-variants.{BadRoom, BadCode}
 use Rattle.rules.specs.declared.ListAnswer.{ListAnswer}
 use Rattle.clue.specs.declared.CluesAnswer.{CluesAnswer}
@@ -41,7 +41,7 @@ gridFits w h codes rowCounts rowSizes columnCounts columnSizes =
 
 -- both sides are judged first
 abbrev pub gridRules : ℕ → ℕ → Bool → Bool → List Rule
-gridRules w h fits bad = (lengthRules w ++ lengthRules h) ++ codeRules fits bad
+gridRules w h fits bad = sideRules w h ++ codeRules fits bad
 
 -- the number of an answer, and its values: the blocks written for the rows, and for the columns
 abbrev pub cluesReply : CluesAnswer → List ℕ

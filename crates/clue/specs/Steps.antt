@@ -43,14 +43,6 @@ per Colour n = n
 
 -- ---- a grid
 
--- a picture, its sides kept
-pub record Grid (w h : ℕ) (b : List ℕ) : Type 0 where
-  pub wide : 0 < w
-  pub wide-most : w ≤ 64
-  pub high : 0 < h
-  pub high-most : h ≤ 64
-  pub size : length b ≡ w * h
-
 pub record GridRoom (w h : ℕ) (rc rs cc cs : List ℕ) : Type 0 where
   pub row-counts : h ≤ length rc
   pub row-sizes : w * h ≤ length rs

@@ -1,11 +1,11 @@
 // Clues of binary pictures: sizes alone. All codes but the blank one are one code.
 use crate::CluesAnswer;
 use crate::Part;
-use crate::grid::write_clues;
 use crate::judge::judge_binary_grid;
 use crate::judge::judge_line;
 use crate::judge::mixed_code;
 use crate::line::write_line;
+use crate::picture::write_clues;
 use rules::ListAnswer;
 use rules::Verdict;
 ghost use Rattle.clue.specs.Calls.{BinaryClue, BinaryClues};

@@ -4,6 +4,7 @@ use rules::Verdict;
 use rules::judge::both_room;
 use rules::judge::illegal_colour;
 use rules::judge::judge_length;
+use rules::judge::judge_sides;
 ghost use mathlib.Core.Path.{_≡_};
 ghost use mathlib.Core.Bool.{cond, false, not, _&&_};
 ghost use mathlib.Core.List.{_++_};
@@ -96,17 +97,6 @@ pub(crate) fn judge_line(length: usize, roomy: bool, bad: bool) -> Verdict
     match v {
         Verdict::Bad(w) => Verdict::Bad(w),
         Verdict::Fine => judge_codes(roomy, bad),
-    }
-}
-
-// Rule 1 for both sides.
-fn judge_sides(width: usize, height: usize) -> Verdict
-    ensures { λ r. ⌜ r ≡ verdict (lengthRules width ++ lengthRules height) ⌝ }
-{
-    let v = judge_length(width);
-    match v {
-        Verdict::Bad(w) => Verdict::Bad(w),
-        Verdict::Fine => judge_length(height),
     }
 }
 

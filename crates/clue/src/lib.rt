@@ -1,9 +1,9 @@
 // Clue generation: the parts of base.rs that make clues of pictures. Each public call judges its input first, and a refusal changes nothing.
 pub mod binary;
-mod grid;
 mod judge;
 mod line;
 pub mod multicolor;
+mod picture;
 
 use rules::Refusal;
 

@@ -1,13 +1,13 @@
 // Clues of coloured pictures: sizes and colours.
 use crate::CluesAnswer;
 use crate::Part;
-use crate::grid::column_clues;
-use crate::grid::row_clues;
-use crate::grid::write_clues;
 use crate::judge::bad_code;
 use crate::judge::judge_coloured_grid;
 use crate::judge::judge_line;
 use crate::line::write_line;
+use crate::picture::column_clues;
+use crate::picture::row_clues;
+use crate::picture::write_clues;
 use rules::ListAnswer;
 use rules::Verdict;
 use rules::judge::both_room;
@@ -15,7 +15,8 @@ ghost use Prim.Native.Nat.{_*_, _≤_};
 ghost use lib.ListN.{length};
 ghost use Rattle.rules.specs.Card.{rowClues, columnClues};
 ghost use Rattle.clue.specs.Calls.{ColouredClue, ColouredClues};
-ghost use Rattle.clue.specs.Steps.{Grid, ColoursPut};
+ghost use Rattle.grid.specs.Grid.{Grid};
+ghost use Rattle.clue.specs.Steps.{ColoursPut};
 
 // The clue of a line of codes: its maximal runs of equal codes that are not blank.
 pub fn from_line(codes: &[u32], blank: u32, sizes: &mut [u32], colours: &mut [u32]) -> ListAnswer

@@ -11,14 +11,14 @@ use lib.ListN.{length, take, replicate, length-replicate, length-map}
 use lib.Seq.{sets, length-sets}
 use Rattle.rules.specs.Block.{Lent, black, blocks, coloured, binary}
 use Rattle.rules.specs.Binary.{setOf, lineAnswer, readBack, binaryAnswer}
-use Rattle.rules.specs.Refusal.{refusalNumber, Rule, verdict, lengthRules, blockRules}
+use Rattle.rules.specs.Refusal.{refusalNumber, Rule, verdict, lengthRules, blockRules, cellRules}
 use Rattle.rules.specs.declared.Refusal.{Refusal}
 use Rattle.rules.specs.declared.Verdict.the-variants.{Fine, Bad}
 use Rattle.rules.proofs.Tests.{both-true, true-not-false}
 use Rattle.rules.proofs.Blocks.{length-blocks, black-blocks, black-lent}
 use Rattle.rules.proofs.Verdicts.{bad-not-fine, append-parts, length-fine, blocks-fine}
 use Rattle.loops.proofs.Stores.{take-sets}
-use Rattle.line.specs.Calls.{roomFor, lineRules, cellRules, binaryRules, Solves}
+use Rattle.line.specs.Calls.{roomFor, lineRules, binaryRules, Solves}
 use Rattle.line.specs.Steps.{Solvable, Tried, Ready, Works, outcome}
 
 -- ---- what a line that keeps the rules is

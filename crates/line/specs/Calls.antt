@@ -4,14 +4,12 @@ use mathlib.Core.Bool.{Bool, _&&_}
 use mathlib.Core.List.{List, [], _∷_, _++_}
 use mathlib.Core.Option.{Option, none, some}
 use Prim.Native.Nat.{ℕ}
-use lib.Dec.{eqb, ltb, leb}
+use lib.Dec.{eqb, leb}
 use lib.ListN.{length}
 use Rattle.rules.specs.Block.{Lent, binary}
 use Rattle.rules.specs.Binary.{lineAnswer, binaryAnswer}
-use Rattle.rules.specs.Ranges.{anyOf}
-use Rattle.rules.specs.Refusal.{refusalNumber, Rule, _when_, verdict, lengthRules, blockRules}
+use Rattle.rules.specs.Refusal.{refusalNumber, Rule, _when_, verdict, lengthRules, blockRules, cellRules}
 use Rattle.rules.specs.declared.Refusal.{Refusal}
-use Rattle.rules.specs.declared.Refusal.the-variants.{BadCell}
 use Rattle.rules.specs.declared.Verdict.{Verdict}
 use Rattle.rules.specs.declared.Verdict.the-variants.{Fine, Bad}
 use Rattle.line.specs.declared.LineAnswer.{LineAnswer}
@@ -26,10 +24,6 @@ roomFor n memo out = eqb out n && leb 4160 memo
 -- the length, then the lists and the blocks
 abbrev pub lineRules : ℕ → Lent → ℕ → ℕ → List Rule
 lineRules n b memo out = lengthRules n ++ blockRules b (roomFor n memo out)
-
--- a binary cell is above 2
-abbrev pub cellRules : List ℕ → List Rule
-cellRules cells = BadCell when anyOf (λ c. ltb 2 c) cells ∷ []
 
 abbrev pub binaryRules : List ℕ → List ℕ → ℕ → ℕ → List Rule
 binaryRules cells sizes memo out = lengthRules (length cells) ++ blockRules (binary sizes) (roomFor (length cells) memo out) ++ cellRules cells

@@ -14,14 +14,14 @@ ghost use Rattle.line.specs.Calls.{answerNumber, SolvesBinaryLine};
 ghost use Rattle.line.specs.Steps.{Ready, Works};
 
 // The set of a binary cell: undefined can be blank or black.
-fn set_of(cell: u32) -> u32
+pub fn set_of(cell: u32) -> u32
     ensures { λ r. ⌜ r ≡ setOf cell ⌝ }
 {
     if cell == 0 { 3 } else { cell }
 }
 
 // The binary cell of a set.
-fn cell_of(set: u32) -> u32
+pub fn cell_of(set: u32) -> u32
     ensures { λ r. ⌜ r ≡ cellOf set ⌝ }
 {
     if 2 < set { 0 } else { set }

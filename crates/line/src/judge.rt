@@ -1,16 +1,15 @@
 // The rules of a line: its length, the room of its output and memo, its blocks and, if it is binary, its cells.
 use rules::Refusal;
 use rules::Verdict;
+use rules::judge::any_above;
 use rules::judge::judge_black;
 use rules::judge::judge_blocks;
 use rules::judge::judge_length;
 ghost use mathlib.Core.Path.{_≡_};
 ghost use mathlib.Core.List.{_++_};
-ghost use lib.Dec.{ltb};
 ghost use Rattle.rules.specs.Block.{coloured, binary};
-ghost use Rattle.rules.specs.Ranges.{anyOf};
-ghost use Rattle.rules.specs.Refusal.{verdict, blockRules};
-ghost use Rattle.line.specs.Calls.{roomFor, lineRules, cellRules, binaryRules};
+ghost use Rattle.rules.specs.Refusal.{verdict, blockRules, cellRules};
+ghost use Rattle.line.specs.Calls.{roomFor, lineRules, binaryRules};
 
 // An output as long as the line, and 65 × 64 bytes of memo.
 fn has_room(length: usize, memo: usize, out: usize) -> bool
@@ -39,19 +38,6 @@ pub(crate) fn judge_line(
     }
 }
 
-fn any_bad(cells: &[u32]) -> bool
-    ensures { λ r. ⌜ r ≡ anyOf (λ c. ltb 2 c) (now (cells .entry)) ⌝ }
-{
-    let mut i = 0;
-    while i < cells.len() {
-        if 2 < cells[i] {
-            return true;
-        }
-        i += 1;
-    }
-    false
-}
-
 // Rules 2 to 5.
 fn judge_binary_cells(cells: &[u32], sizes: &[u32], roomy: bool) -> Verdict
     ensures { λ r. ⌜ r ≡ verdict (blockRules (binary (now (sizes .entry))) roomy ++ cellRules (now (cells .entry))) ⌝ }
@@ -60,7 +46,7 @@ fn judge_binary_cells(cells: &[u32], sizes: &[u32], roomy: bool) -> Verdict
     match v {
         Verdict::Bad(w) => Verdict::Bad(w),
         Verdict::Fine => {
-            if any_bad(cells) {
+            if any_above(cells, 2) {
                 return Verdict::Bad(Refusal::BadCell);
             }
             Verdict::Fine

@@ -47,6 +47,14 @@ module _ {out₀ : List ℕ} {i₀ : ℕ} {vs₀ out : List ℕ} {i : ℕ} {vs :
   pub going-done : vs ≡ [] → Put out₀ i₀ vs₀ i out
   going-done e = record { end = omega (arith, ap length e, g .count); holds = sym (ap (λ l. sets out i l) e) ∙ g .same }
 
+-- some values, and then others after them
+pub put-then : {out out′ out″ us vs : List ℕ} {i j k : ℕ} → Put out i us j out′ → Put out′ j vs k out″ → Put out i (us ++ vs) k out″
+put-then {out = out} {us = us} {vs = vs} {i = i} p q =
+    record {
+      end = omega (arith, p .end, q .end, length-append us vs);
+      holds = q .holds ∙ ap₂ (λ l n. sets l n vs) (p .holds) (p .end) ∙ sym (sets-append out i us vs);
+    }
+
 -- ---- what one store after the other leaves, in the reader's words
 
 pub written-sets : (vs out : List ℕ) → length vs ≤ length out → sets out 0 vs ≡ written vs out

@@ -1,3 +1,2 @@
 pub mod Going
 pub mod Stores
-pub mod Searching

@@ -12,7 +12,7 @@ use lib.Dec.{eqb}
 use lib.ListN.{length, take, drop, getD, replicate, drop-of-length-le}
 use lib.Seq.{drop-cons}
 use Rattle.rules.specs.Colour.{Colour}
-use Rattle.rules.specs.Block.{Block, _of_, black, sizesOf, coloursOf, blocks, coloured, binary, Legal, legal-none, legal-block, illegalColour, illegalBlock, illegal}
+use Rattle.rules.specs.Block.{Block, _of_, black, blacks, sizesOf, coloursOf, blocks, coloured, binary, Legal, legal-none, legal-block, illegalColour, illegalBlock, illegal}
 use Rattle.rules.proofs.Tests.{cond-false}
 use Rattle.rules.proofs.Colours.{one-colour, ones-pow}
 
@@ -66,10 +66,17 @@ legal-test (legal-block {b = b} s c d o) = rw (ne-eqb (b .size) 0 (λ e. omega a
 
 -- ---- black blocks, which are what a binary list lends
 
+pub blacks-take : (ns : List ℕ) (k : ℕ) → length ns ≤ k → take (length ns) (replicate k 2) ≡ blacks ns
+blacks-take [] k h = refl
+blacks-take (n ∷ ns) zero h = absurd (omega arith)
+blacks-take (n ∷ ns) (suc k) h = ap (λ l. 2 ∷ l) (blacks-take ns k (omega arith))
+
+pub blacks-blocks : (ns : List ℕ) → blocks ns (blacks ns) ≡ map black ns
+blacks-blocks [] = refl
+blacks-blocks (n ∷ ns) = ap (λ l. black n ∷ l) (blacks-blocks ns)
+
 pub black-blocks : (ns : List ℕ) (k : ℕ) → length ns ≤ k → blocks ns (take (length ns) (replicate k 2)) ≡ map black ns
-black-blocks [] k h = refl
-black-blocks (n ∷ ns) zero h = absurd (omega arith)
-black-blocks (n ∷ ns) (suc k) h = ap (λ l. black n ∷ l) (black-blocks ns k (omega arith))
+black-blocks ns k h = ap (blocks ns) (blacks-take ns k h) ∙ blacks-blocks ns
 
 pub blacks-length : (n k : ℕ) → n ≤ k → length (take n (replicate k (suc (suc zero)))) ≡ n
 blacks-length zero k h = refl

@@ -1,6 +1,7 @@
 -- The laws of the paper, in the order of its definitions.
 pub mod Tests
 pub mod Lists
+pub mod Searching
 pub mod Colours
 pub mod Blocks
 pub mod Placements

@@ -9,7 +9,7 @@ use borrow.Author.Tests.{eqb-false, ltb-false, not-false, leb-true, eqb-true}
 use lib.Dec.{eqb, ltb, leb}
 use lib.ListN.{length, length-map}
 use Rattle.rules.specs.Block.{Lent, black, blocks, coloured, binary, illegal}
-use Rattle.rules.specs.Refusal.{refusalNumber, Rule, _when_, verdict, ascending, Lowest, lengthRules, countRules, blockRules}
+use Rattle.rules.specs.Refusal.{refusalNumber, Rule, _when_, verdict, ascending, Lowest, lengthRules, sideRules, countRules, blockRules}
 use Rattle.rules.specs.declared.Refusal.{Refusal}
 use Rattle.rules.specs.declared.Refusal.the-variants.{BadLength, BadRoom, TooManyBlocks, BadBlock}
 use Rattle.rules.specs.declared.Verdict.{Verdict}
@@ -117,6 +117,13 @@ length-fine n e =
     let a = fine-cons (BadLength when eqb n 0) (BadLength when ltb 64 n ∷ []) e in
     let z = eqb-false n 0 (a .0) in
     (omega (arith, z), ltb-false 64 n (fine-cons (BadLength when ltb 64 n) [] (a .1) .0))
+
+pub sides-fine : (w h : ℕ) → verdict (sideRules w h) ≡ Fine → (0 < w) × (w ≤ 64) × (0 < h) × (h ≤ 64)
+sides-fine w h q =
+    let a = append-parts (lengthRules w) (lengthRules h) q in
+    let x = length-fine w (a .0) in
+    let y = length-fine h (a .1) in
+    (x .0, x .1, y .0, y .1)
 
 -- what the rules on lists of blocks leave
 pub record Counted (paired : Bool) (count : ℕ) (roomy : Bool) : Type 0 where

@@ -22,6 +22,10 @@ infix 90 _of_
 abbrev pub black : ℕ → Block
 black n = n of 2
 
+-- the colours of black blocks of these sizes
+abbrev pub blacks : List ℕ → List ℕ
+blacks sizes = map (λ n. 2) sizes
+
 -- the sizes of blocks, and their colours
 abbrev pub sizesOf : List Block → List ℕ
 sizesOf bs = map (λ b. b .size) bs

@@ -3,7 +3,7 @@ use mathlib.Core.List.{List, [], _∷_, _++_}
 use mathlib.Core.Option.{Option}
 use Prim.Native.Nat.{ℕ, zero, suc, _+_}
 use lib.ListN.{length, getD, take, drop}
-use Rattle.rules.specs.Block.{Block, blocks}
+use Rattle.rules.specs.Block.{Block, blacks, blocks}
 use Rattle.rules.specs.Placement.{Placement, placements}
 use Rattle.rules.specs.Answer.{answer}
 use Rattle.rules.specs.Clue.{clue}
@@ -19,6 +19,18 @@ pub record Card : Type 0 where
   pub columnCounts : List ℕ
   pub columnSizes : List ℕ
   pub columnColours : List ℕ
+
+-- the card of binary clues: every block is black
+abbrev pub blackCard : List ℕ → List ℕ → List ℕ → List ℕ → Card
+blackCard rowCounts rowSizes columnCounts columnSizes =
+    record {
+      rowCounts = rowCounts;
+      rowSizes = rowSizes;
+      rowColours = blacks rowSizes;
+      columnCounts = columnCounts;
+      columnSizes = columnSizes;
+      columnColours = blacks columnSizes;
+    }
 
 abbrev pub sum : List ℕ → ℕ
 sum [] = 0

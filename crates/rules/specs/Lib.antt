@@ -12,4 +12,5 @@ pub mod Refusal
 pub mod Table
 pub mod Board
 pub mod Card
+pub mod CardRules
 pub mod Run

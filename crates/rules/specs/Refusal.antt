@@ -7,6 +7,7 @@ use lib.Dec.{eqb, ltb, leb}
 use lib.ListN.{length, drop}
 use Rattle.rules.specs.Block.{Block, Lent, illegal, sizesOf, coloursOf}
 use Rattle.rules.specs.Packing.{minimalSpace}
+use Rattle.rules.specs.Ranges.{anyOf}
 use Rattle.rules.specs.declared.Refusal.{Refusal}
 use Rattle.rules.specs.declared.Refusal.the-variants.{BadLength, BadRoom, TooManyBlocks, BadBlock, BadCell, OutsideGrid, ShortReport, BadCode, NoSpace}
 use Rattle.rules.specs.declared.Verdict.{Verdict}
@@ -59,6 +60,10 @@ pub record Lowest (rs : List Rule) (w : Refusal) : Type 0 where
 abbrev pub lengthRules : ℕ → List Rule
 lengthRules n = BadLength when eqb n 0 ∷ BadLength when ltb 64 n ∷ []
 
+-- both sides of a grid
+abbrev pub sideRules : ℕ → ℕ → List Rule
+sideRules w h = lengthRules w ++ lengthRules h
+
 -- 2: the lists of blocks have unequal lengths, or a list to write has too little room; 3: more than 64 blocks
 abbrev pub countRules : Bool → ℕ → Bool → List Rule
 countRules paired count roomy = BadRoom when not paired ∷ BadRoom when not roomy ∷ TooManyBlocks when ltb 64 count ∷ []
@@ -66,6 +71,10 @@ countRules paired count roomy = BadRoom when not paired ∷ BadRoom when not roo
 -- the same of a line's blocks; 4: a block is not legal
 abbrev pub blockRules : Lent → Bool → List Rule
 blockRules b roomy = countRules (b .paired) (length (b .list)) roomy ++ (BadBlock when illegal (b .list) ∷ [])
+
+-- 5: a binary cell is above 2
+abbrev pub cellRules : List ℕ → List Rule
+cellRules cells = BadCell when anyOf (λ c. ltb 2 c) cells ∷ []
 
 -- 10: the blocks need more than the length
 abbrev pub spaceRules : ℕ → Lent → List Rule

@@ -4,10 +4,11 @@ use crate::Verdict;
 ghost use mathlib.Core.Path.{_≡_};
 ghost use mathlib.Core.Bool.{_&&_};
 ghost use mathlib.Core.List.{map};
-ghost use lib.Dec.{leb};
+ghost use lib.Dec.{ltb, leb};
 ghost use lib.ListN.{length};
 ghost use Rattle.rules.specs.Block.{black, blocks, coloured, binary, illegalColour, illegalBlock, illegal};
-ghost use Rattle.rules.specs.Refusal.{verdict, lengthRules, countRules, blockRules};
+ghost use Rattle.rules.specs.Ranges.{anyOf};
+ghost use Rattle.rules.specs.Refusal.{verdict, lengthRules, sideRules, countRules, blockRules};
 
 // A colour that is blank, or has not exactly one bit.
 pub fn illegal_colour(colour: u32) -> bool
@@ -28,13 +29,28 @@ fn illegal_block(size: u32, colour: u32) -> bool
     illegal_colour(colour)
 }
 
-fn any_illegal(sizes: &[u32], colours: &[u32]) -> bool
+// Some block of a list is not legal.
+pub fn any_illegal(sizes: &[u32], colours: &[u32]) -> bool
     requires { ⌜ length (now sizes) ≡ length (now colours) ⌝ }
     ensures { λ r. ⌜ r ≡ illegal (blocks (now (sizes .entry)) (now (colours .entry))) ⌝ }
 {
     let mut i = 0;
     while i < sizes.len() {
         if illegal_block(sizes[i], colours[i]) {
+            return true;
+        }
+        i += 1;
+    }
+    false
+}
+
+// Some number of a list is above `most`.
+pub fn any_above(list: &[u32], most: u32) -> bool
+    ensures { λ r. ⌜ r ≡ anyOf (λ n. ltb most n) (now (list .entry)) ⌝ }
+{
+    let mut i = 0;
+    while i < list.len() {
+        if most < list[i] {
             return true;
         }
         i += 1;
@@ -53,6 +69,17 @@ pub fn judge_length(line_length: usize) -> Verdict
         return Verdict::Bad(Refusal::BadLength);
     }
     Verdict::Fine
+}
+
+// Rule 1 for both sides.
+pub fn judge_sides(width: usize, height: usize) -> Verdict
+    ensures { λ r. ⌜ r ≡ verdict (sideRules width height) ⌝ }
+{
+    let v = judge_length(width);
+    match v {
+        Verdict::Bad(w) => Verdict::Bad(w),
+        Verdict::Fine => judge_length(height),
+    }
 }
 
 // Rules 2 and 3. `paired`: the lists that hold the blocks have one length. `roomy`: the lists to write have room.
@@ -87,7 +114,8 @@ pub fn judge_blocks(sizes: &[u32], colours: &[u32], roomy: bool) -> Verdict
     }
 }
 
-fn any_empty(sizes: &[u32]) -> bool
+// The same of black blocks: some size is 0.
+pub fn any_empty(sizes: &[u32]) -> bool
     ensures { λ r. ⌜ r ≡ illegal (map black (now (sizes .entry))) ⌝ }
 {
     let mut i = 0;

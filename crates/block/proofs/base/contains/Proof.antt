@@ -4,7 +4,7 @@ use borrow.Author.Tests.{eq-eqb, ne-eqb}
 use lib.Dec.{eqb}
 use lib.ListN.{length, drop}
 use mathlib.Core.Path.{_≡_, refl, sym, _∙_}
-use Rattle.loops.proofs.Searching.{any-step, any-end}
+use Rattle.rules.proofs.Searching.{any-step, any-end}
 use Rattle.rules.specs.Ranges.{anyOf}
 use borrow.Author.Needs.{needs}
 use native.Mathlib.Omega.{arith}

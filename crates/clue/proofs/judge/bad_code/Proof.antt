@@ -4,7 +4,7 @@ use lib.Dec.{eqb}
 use lib.ListN.{length, drop}
 use mathlib.Core.Bool.{false, cond}
 use mathlib.Core.Path.{_≡_, refl, sym, _∙_}
-use Rattle.loops.proofs.Searching.{any-step, any-end}
+use Rattle.rules.proofs.Searching.{any-step, any-end}
 use Rattle.rules.specs.Block.{illegalColour}
 use Rattle.rules.specs.Ranges.{anyOf}
 use borrow.Author.Needs.{needs}

@@ -1,12 +1,11 @@
 -- `judge::judge_binary_grid` meets its contract: one rule after the other.
 use lib.ListN.{length}
-use mathlib.Core.List.{_++_}
 use mathlib.Core.Path.{sym, _∙_}
-use Rattle.clue.proofs.Told.{sides, grid-same}
-use Rattle.rules.proofs.Verdicts.{append-bad}
+use Rattle.clue.proofs.Told.{grid-same}
+use Rattle.rules.proofs.Verdicts.{sides-fine, append-bad}
 use Rattle.clue.specs.Calls.{codeRules, gridFits}
 use Rattle.rules.specs.Clue.{mixedCode}
-use Rattle.rules.specs.Refusal.{lengthRules}
+use Rattle.rules.specs.Refusal.{sideRules}
 use borrow.Author.Needs.{needs}
 use Rattle.clue.proofs.judge.judge_binary_grid.Statement.{statement}
 use Rattle.clue.proofs.judge.judge_binary_grid.Tie as tie
@@ -24,7 +23,7 @@ grid-fits-requires : tie.Need-grid-fits-requires
 grid-fits-requires c κs =
     let args = c .before .before .before .before .args in
     let judge-sides = c .before .before .judge-sides in
-    let s = sides (args .width) (args .height) (sym (judge-sides .ensures) ∙ c .enum-told .given .1) in (s .1, s .3)
+    let s = sides-fine (args .width) (args .height) (sym (judge-sides .ensures) ∙ c .enum-told .given .1) in (s .1, s .3)
 
 mixed-code-requires : tie.Need-mixed-code-requires
 mixed-code-requires c κs = search needs
@@ -37,7 +36,7 @@ returns c =
     let args = c .before .before .before .before .before .args in
     let judge-sides = c .before .before .before .judge-sides in
     sym
-    (append-bad (lengthRules (args .width) ++ lengthRules (args .height))
+    (append-bad (sideRules (args .width) (args .height))
     (codeRules
     (gridFits (args .width) (args .height) (length (args .codes .now)) (args .row-counts) (args .row-sizes) (args .column-counts)
     (args .column-sizes))

@@ -3,13 +3,12 @@ use Prim.Native.Nat.{_*_}
 use lib.Dec.{leb}
 use lib.ListN.{length}
 use mathlib.Core.Bool.{Bool, _&&_}
-use mathlib.Core.List.{_++_}
 use mathlib.Core.Path.{sym, ap, _∙_}
-use Rattle.clue.proofs.Told.{sides, grid-same}
-use Rattle.rules.proofs.Verdicts.{append-bad}
+use Rattle.clue.proofs.Told.{grid-same}
+use Rattle.rules.proofs.Verdicts.{sides-fine, append-bad}
 use Rattle.clue.specs.Calls.{codeRules, gridFits}
 use Rattle.rules.specs.Clue.{badCode}
-use Rattle.rules.specs.Refusal.{lengthRules}
+use Rattle.rules.specs.Refusal.{sideRules}
 use borrow.Author.Needs.{needs}
 use Rattle.clue.proofs.judge.judge_coloured_grid.Statement.{statement}
 use Rattle.clue.proofs.judge.judge_coloured_grid.Tie as tie
@@ -27,13 +26,13 @@ grid-fits-requires : tie.Need-grid-fits-requires
 grid-fits-requires c κs =
     let args = c .before .before .before .before .args in
     let judge-sides = c .before .before .judge-sides in
-    let s = sides (args .width) (args .height) (sym (judge-sides .ensures) ∙ c .enum-told .given .1) in (s .1, s .3)
+    let s = sides-fine (args .width) (args .height) (sym (judge-sides .ensures) ∙ c .enum-told .given .1) in (s .1, s .3)
 
 colours-fit-requires : tie.Need-colours-fit-requires
 colours-fit-requires c κs =
     let args = c .before .before .before .before .before .args in
     let judge-sides = c .before .before .before .judge-sides in
-    let s = sides (args .width) (args .height) (sym (judge-sides .ensures) ∙ c .before .enum-told .given .1) in (s .1, s .3)
+    let s = sides-fine (args .width) (args .height) (sym (judge-sides .ensures) ∙ c .before .enum-told .given .1) in (s .1, s .3)
 
 bad-code-requires : tie.Need-bad-code-requires
 bad-code-requires c κs = search needs
@@ -46,7 +45,7 @@ returns c =
     let args = c .before .before .before .before .before .args in
     let judge-sides = c .before .before .before .judge-sides in
     sym
-    (append-bad (lengthRules (args .width) ++ lengthRules (args .height))
+    (append-bad (sideRules (args .width) (args .height))
     (codeRules
     (gridFits (args .width) (args .height) (length (args .codes .now)) (args .row-counts) (args .row-sizes) (args .column-counts)
     (args .column-sizes) &&

@@ -1,9 +1,8 @@
 -- `judge::judge_binary_cells` meets its contract: the blocks are judged, and then the cells.
 use mathlib.Core.Path.{sym, _∙_}
 use Rattle.rules.specs.Block.{binary}
-use Rattle.rules.specs.Refusal.{blockRules}
+use Rattle.rules.specs.Refusal.{blockRules, cellRules}
 use Rattle.rules.proofs.Verdicts.{append-bad, append-fine}
-use Rattle.line.specs.Calls.{cellRules}
 use borrow.Author.Needs.{needs}
 use Rattle.line.proofs.judge.judge_binary_cells.Statement.{statement}
 use Rattle.line.proofs.judge.judge_binary_cells.Tie as tie
@@ -17,8 +16,8 @@ enum-known-v c = search needs
 enum-told : tie.Need-enum-told
 enum-told c = search needs
 
-any-bad-requires : tie.Need-any-bad-requires
-any-bad-requires c κs = search needs
+any-above-requires : tie.Need-any-above-requires
+any-above-requires c κs = search needs
 
 returns : tie.Need-returns
 returns c =
@@ -28,7 +27,7 @@ returns c =
     sym
     (append-fine (blockRules (binary (args .sizes .now)) (args .roomy)) (cellRules (args .cells .now))
     (sym (judge-black .ensures) ∙ enum-told .given .1)
-    ∙ rw (sym (c .before .any-bad .ensures) ∙ c .if1 .taken))
+    ∙ rw (sym (c .before .any-above .ensures) ∙ c .if1 .taken))
 
 returns-2 : tie.Need-returns-2
 returns-2 c =
@@ -45,7 +44,7 @@ returns-3 c =
     sym
     (append-fine (blockRules (binary (args .sizes .now)) (args .roomy)) (cellRules (args .cells .now))
     (sym (judge-black .ensures) ∙ enum-told .given .1)
-    ∙ rw (sym (c .before .any-bad .ensures) ∙ c .if1 .left))
+    ∙ rw (sym (c .before .any-above .ensures) ∙ c .if1 .left))
 
 pub judge-binary-cells-spec : {M : Type 1} → statement M
 judge-binary-cells-spec =
@@ -54,7 +53,7 @@ judge-binary-cells-spec =
     judge-black-requires
     enum-known-v
     enum-told
-    any-bad-requires
+    any-above-requires
     returns
     returns-2
     returns-3)

@@ -3,9 +3,9 @@ use mathlib.Core.Path.{sym, ap, _∙_}
 use mathlib.Core.List.{_++_}
 use lib.ListN.{length}
 use Rattle.rules.specs.Block.{binary}
-use Rattle.rules.specs.Refusal.{verdict, lengthRules, blockRules}
+use Rattle.rules.specs.Refusal.{verdict, lengthRules, blockRules, cellRules}
 use Rattle.rules.proofs.Verdicts.{append-bad, append-fine}
-use Rattle.line.specs.Calls.{roomFor, cellRules}
+use Rattle.line.specs.Calls.{roomFor}
 use borrow.Author.Needs.{needs}
 use Rattle.line.proofs.judge.judge_binary_line.Statement.{statement}
 use Rattle.line.proofs.judge.judge_binary_line.Tie as tie

@@ -1,0 +1,64 @@
+-- `judge::judge_card` meets its contract: one rule after the other.
+use lib.ListN.{length}
+use mathlib.Core.Path.{_≡_, sym, ap₂, _∙_}
+use Rattle.rules.specs.Refusal.{verdict}
+use Rattle.rules.specs.declared.Verdict.the-variants.{Fine}
+use Rattle.rules.specs.Card.{Card}
+use Rattle.card.specs.Steps.{cardOf, legalRules}
+use Rattle.card.proofs.Counted.{Known, counting, counts-known, card-bad, card-fine}
+use borrow.Author.Needs.{needs}
+use Rattle.card.proofs.judge.judge_card.Statement.{statement}
+use Rattle.card.proofs.judge.judge_card.Tie as tie
+
+judge-counts-requires : tie.Need-judge-counts-requires
+judge-counts-requires c κs = search needs
+
+enum-known-v : tie.Need-enum-known-v
+enum-known-v c = search needs
+
+enum-told : tie.Need-enum-told
+enum-told c = search needs
+
+abbrev card : (c : tie.Start) → Card
+card c = let a = c .args in cardOf (a .row-counts .now) (a .row-sizes .now) (a .row-colours .now) (a .column-counts .now) (a .column-sizes .now) (a .column-colours .now)
+
+fine : (c : tie.After-enum-told) → verdict (counting (c .before .before .before .before .before .before .before .before .before .args .width) (c .before .before .before .before .before .before .before .before .before .args .height) (c .before .before .before .before .before .before .before .before .before .args .cells) (c .before .before .before .before .before .before .before .before .before .args .row-counts .now) (length (c .before .before .before .before .before .before .before .before .before .args .row-sizes .now)) (length (c .before .before .before .before .before .before .before .before .before .args .row-colours .now)) (c .before .before .before .before .before .before .before .before .before .args .column-counts .now) (length (c .before .before .before .before .before .before .before .before .before .args .column-sizes .now)) (length (c .before .before .before .before .before .before .before .before .before .args .column-colours .now)) (c .before .before .before .before .before .before .before .before .before .args .memo) (c .before .before .before .before .before .before .before .before .before .args .stack)) ≡ Fine
+fine c = sym (c .before .before .judge-counts .ensures) ∙ c .enum-told .given .1
+
+any-illegal-requires : tie.Need-any-illegal-requires
+any-illegal-requires c κs =
+    let args = c .before .before .before .before .before .before .before .before .before .args in
+    sym (counts-known (args .width) (args .height) (args .cells) (args .row-counts .now) (length (args .row-sizes .now)) (length (args .row-colours .now)) (args .column-counts .now) (length (args .column-sizes .now)) (length (args .column-colours .now)) (args .memo) (args .stack) (fine c) .row-lists .pairs)
+
+any-illegal-requires-2 : tie.Need-any-illegal-requires-2
+any-illegal-requires-2 c κs =
+    let args = c .before .before .before .before .before .before .before .before .before .before .args in
+    sym (counts-known (args .width) (args .height) (args .cells) (args .row-counts .now) (length (args .row-sizes .now)) (length (args .row-colours .now)) (args .column-counts .now) (length (args .column-sizes .now)) (length (args .column-colours .now)) (args .memo) (args .stack) (fine (c .before)) .column-lists .pairs)
+
+judge-legal-requires : tie.Need-judge-legal-requires
+judge-legal-requires c κs = search needs
+
+returns : tie.Need-returns
+returns c =
+    let args = c .before .before .before .before .before .before .before .before .before .before .args in
+    let judge-counts = c .before .before .before .judge-counts in
+    sym (card-bad (args .width) (args .height) (args .cells) (card (c .before .before .before .before .before .before .before .before .before .before)) (args .memo) (args .stack) (sym (judge-counts .ensures) ∙ c .before .v .given .1))
+
+returns-2 : tie.Need-returns-2
+returns-2 c =
+    let args = c .before .before .before .before .before .before .before .before .before .before .before .before .args in
+    c .judge-legal .ensures ∙ ap₂ (λ a b. verdict (legalRules a b)) (c .before .before .any-illegal .ensures) (c .before .any-illegal2 .ensures)
+    ∙ sym (card-fine (args .width) (args .height) (args .cells) (card (c .before .before .before .before .before .before .before .before .before .before .before .before)) (args .memo) (args .stack) (fine (c .before .before .before)))
+
+pub judge-card-spec : {M : Type 1} → statement M
+judge-card-spec =
+    tie.close
+    (tie.spec
+    judge-counts-requires
+    enum-known-v
+    enum-told
+    any-illegal-requires
+    any-illegal-requires-2
+    judge-legal-requires
+    returns
+    returns-2)

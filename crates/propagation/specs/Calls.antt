@@ -1,0 +1,108 @@
+-- What the four public calls of this crate promise: full runs and runs from a point, with coloured and with binary cells.
+use mathlib.Core.Path.{_≡_}
+use mathlib.Core.Bool.{Bool, true, not, _&&_}
+use mathlib.Core.List.{List, [], _∷_, _++_, map}
+use mathlib.Core.Option.{Option, none, some}
+use Prim.Native.Nat.{ℕ}
+use lib.Dec.{ltb}
+use lib.ListN.{length}
+use Rattle.rules.specs.Binary.{setOf, cellOf}
+use Rattle.rules.specs.Card.{Card, clueOf, solveStraight}
+use Rattle.rules.specs.CardRules.{cardRules}
+use Rattle.rules.specs.Refusal.{refusalNumber, Rule, _when_, verdict, cellRules, left}
+use Rattle.rules.specs.Run.{room, Outcome, done, refused, fullRun, pointRun, boardOf, reportOf}
+use Rattle.rules.specs.declared.LinePosition.{LinePosition}
+use Rattle.rules.specs.declared.Refusal.{Refusal}
+use Rattle.rules.specs.declared.Refusal.the-variants.{OutsideGrid, ShortReport}
+use Rattle.rules.specs.declared.Verdict.{Verdict}
+use Rattle.rules.specs.declared.Verdict.the-variants.{Fine, Bad}
+use Rattle.propagation.specs.declared.Start.{Start}
+use Rattle.propagation.specs.declared.Start.the-variants.{Full, Point}
+use Rattle.propagation.specs.declared.RunAnswer.{RunAnswer}
+use Rattle.propagation.specs.declared.RunAnswer.the-variants.{Done, Unsolvable, Refused}
+
+-- ---- rules: 1 to 4 are those of the card; 5 for binary cells; 6; 7
+
+-- the point, if there is one, lies in the grid
+abbrev pub inGrid : ℕ → ℕ → Start → Bool
+inGrid w h Full = true
+inGrid w h (Point x y) = ltb (x .0) w && ltb (y .0) h
+
+-- 6: the point lies outside the grid; 7: the report has fewer entries than the room number
+abbrev pub endRules : ℕ → ℕ → Start → ℕ → ℕ → List Rule
+endRules w h s report n = OutsideGrid when not (inGrid w h s) ∷ ShortReport when ltb report n ∷ []
+
+abbrev pub runRules : ℕ → ℕ → Start → Card → List ℕ → ℕ → ℕ → ℕ → List Rule
+runRules w h s c grid report memo stack = cardRules w h (length grid) c memo stack ++ endRules w h s report (room grid)
+
+abbrev pub binaryRules : ℕ → ℕ → Start → Card → List ℕ → ℕ → ℕ → ℕ → List Rule
+binaryRules w h s c grid report memo stack =
+    cardRules w h (length grid) c memo stack ++ (cellRules grid ++ endRules w h s report (room (map setOf grid)))
+
+-- ---- answers
+
+-- document 01's number of each answer
+abbrev pub answerNumber : RunAnswer → ℕ
+answerNumber (Done entries lines) = 0
+answerNumber (Unsolvable line entries lines) = 8
+answerNumber (Refused w) = refusalNumber w
+
+-- what an answer tells: its number, the line that refused, the entries written to the report and the lines solved
+pub record Reply : Type 0 where
+  pub number : ℕ
+  pub line : Option LinePosition
+  pub entries : ℕ
+  pub lines : ℕ
+
+-- a refusal by checking has no line and no counts
+abbrev pub refusal : Refusal → Reply
+refusal w = record { number = refusalNumber w; line = none; entries = 0; lines = 0 }
+
+abbrev pub replyOf : RunAnswer → Reply
+replyOf (Done entries lines) = record { number = 0; line = none; entries = entries; lines = lines }
+replyOf (Unsolvable line entries lines) = record { number = 8; line = some line; entries = entries; lines = lines }
+replyOf (Refused w) = refusal w
+
+-- what the end of a run asks to be told
+abbrev pub replyTo : Outcome → Reply
+replyTo (done b r k) = record { number = 0; line = none; entries = length r; lines = k }
+replyTo (refused l b r k) = record { number = 8; line = some l; entries = length r; lines = k }
+
+-- the reply by the rules and the run
+abbrev pub reply : Verdict → Outcome → Reply
+reply (Bad w) o = refusal w
+reply Fine o = replyTo o
+
+-- the grid after the call: as it stood, if the input is refused by checking
+abbrev pub gridLeft : Verdict → List ℕ → List ℕ → List ℕ
+gridLeft (Bad w) b grid = grid
+gridLeft Fine b grid = b
+
+-- ---- the statement
+
+-- the run of a card by the order rules
+abbrev pub endOf : ℕ → ℕ → Start → Card → List ℕ → Outcome
+endOf w h Full c b = fullRun w h (solveStraight w h (clueOf c)) b
+endOf w h (Point x y) c b = pointRun w h (solveStraight w h (clueOf c)) (x .0) (y .0) b
+
+-- what all four calls promise, by their rules, the run's end and the board it leaves: the answer, and the grid and the report after the
+-- call. After 0 or 8 the memo and the stack are left open
+pub record Ran (rules : List Rule) (end : Outcome) (board grid report memo stack : List ℕ) (r : RunAnswer) (grid′ report′ memo′ stack′ : List ℕ) : Type 0 where
+  pub tells : replyOf r ≡ reply (verdict rules) end
+  pub leaves : grid′ ≡ gridLeft (verdict rules) board grid
+  pub reports : report′ ≡ left (verdict rules) (reportOf end) report
+  pub kept-memo : (w : Refusal) → verdict rules ≡ Bad w → memo′ ≡ memo
+  pub kept-stack : (w : Refusal) → verdict rules ≡ Bad w → stack′ ≡ stack
+  pub long-memo : length memo′ ≡ length memo
+  pub long-stack : length stack′ ≡ length stack
+
+-- coloured cells
+abbrev pub Runs : ℕ → ℕ → Start → Card → List ℕ → List ℕ → List ℕ → List ℕ → RunAnswer → List ℕ → List ℕ → List ℕ → List ℕ → Type 0
+Runs w h s c grid report memo stack =
+    Ran (runRules w h s c grid (length report) (length memo) (length stack)) (endOf w h s c grid) (boardOf (endOf w h s c grid)) grid report memo stack
+
+-- binary cells: the run is that of their sets, read back
+abbrev pub RunsBinary : ℕ → ℕ → Start → Card → List ℕ → List ℕ → List ℕ → List ℕ → RunAnswer → List ℕ → List ℕ → List ℕ → List ℕ → Type 0
+RunsBinary w h s c grid report memo stack =
+    Ran (binaryRules w h s c grid (length report) (length memo) (length stack)) (endOf w h s c (map setOf grid))
+    (map cellOf (boardOf (endOf w h s c (map setOf grid)))) grid report memo stack

@@ -1,0 +1,3 @@
+-- `Stack` is what the public functions speak of; `Steps` is what the private ones say.
+pub mod Stack
+pub mod Steps
