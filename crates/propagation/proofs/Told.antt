@@ -36,8 +36,7 @@ use Rattle.card.proofs.Clued.{clue-legal}
 use Rattle.propagation.specs.declared.Start.{Start}
 use Rattle.propagation.specs.declared.Start.the-variants.{Full, Point}
 use Rattle.propagation.specs.declared.RunAnswer.{RunAnswer}
-use Rattle.propagation.specs.declared.RunAnswer.the-variants.{Refused}
-use Rattle.propagation.specs.Calls.{inGrid, endRules, runRules, binaryRules, replyOf, replyTo, endOf, Ran}
+use Rattle.propagation.specs.Calls.{inGrid, endRules, runRules, binaryRules, Reply, refusal, replyTo, endOf, Ran}
 use Rattle.propagation.specs.Steps.{InGrid, startCount, startStack, Begins, Ended, Judged, Blackened, EndedBinary}
 use Rattle.propagation.proofs.Updating.{sized}
 
@@ -204,7 +203,7 @@ module _ {w h : ℕ} {s : Start} {rc rs cc cs colours grid report memo stack : L
 
 -- a refusal by checking changes nothing
 pub ran-refused : {rules : List Rule} {o : Outcome} {board grid report memo stack : List ℕ} {w : Refusal} → verdict rules ≡ Bad w
-    → Ran rules o board grid report memo stack (Refused w) grid report memo stack
+    → Ran rules o board grid report memo stack (refusal w) grid report memo stack
 ran-refused e =
     record {
       tells = rw e;
@@ -216,9 +215,9 @@ ran-refused e =
       long-stack = refl;
     }
 
-pub ran-ended : {rules : List Rule} {o : Outcome} {board grid report memo stack : List ℕ} {r : RunAnswer} {grid′ report′ memo′ stack′ : List ℕ}
-    → verdict rules ≡ Fine → replyOf r ≡ replyTo o → grid′ ≡ board → report′ ≡ sets report 0 (reportOf o) → length (reportOf o) ≤ length report
-    → length memo′ ≡ length memo → length stack′ ≡ length stack → Ran rules o board grid report memo stack r grid′ report′ memo′ stack′
+pub ran-ended : {rules : List Rule} {o : Outcome} {board grid report memo stack : List ℕ} {t : Reply} {grid′ report′ memo′ stack′ : List ℕ}
+    → verdict rules ≡ Fine → t ≡ replyTo o → grid′ ≡ board → report′ ≡ sets report 0 (reportOf o) → length (reportOf o) ≤ length report
+    → length memo′ ≡ length memo → length stack′ ≡ length stack → Ran rules o board grid report memo stack t grid′ report′ memo′ stack′
 ran-ended {o = o} {report = report} e t b r n m k =
     record {
       tells = rw e t;

@@ -85,10 +85,10 @@ abbrev pub endOf : ℕ → ℕ → Start → Card → List ℕ → Outcome
 endOf w h Full c b = fullRun w h (solveStraight w h (clueOf c)) b
 endOf w h (Point x y) c b = pointRun w h (solveStraight w h (clueOf c)) (x .0) (y .0) b
 
--- what all four calls promise, by their rules, the run's end and the board it leaves: the answer, and the grid and the report after the
+-- what all four calls promise, by their rules, the run's end and the board it leaves: the reply, and the grid and the report after the
 -- call. After 0 or 8 the memo and the stack are left open
-pub record Ran (rules : List Rule) (end : Outcome) (board grid report memo stack : List ℕ) (r : RunAnswer) (grid′ report′ memo′ stack′ : List ℕ) : Type 0 where
-  pub tells : replyOf r ≡ reply (verdict rules) end
+pub record Ran (rules : List Rule) (end : Outcome) (board grid report memo stack : List ℕ) (t : Reply) (grid′ report′ memo′ stack′ : List ℕ) : Type 0 where
+  pub tells : t ≡ reply (verdict rules) end
   pub leaves : grid′ ≡ gridLeft (verdict rules) board grid
   pub reports : report′ ≡ left (verdict rules) (reportOf end) report
   pub kept-memo : (w : Refusal) → verdict rules ≡ Bad w → memo′ ≡ memo
@@ -97,12 +97,12 @@ pub record Ran (rules : List Rule) (end : Outcome) (board grid report memo stack
   pub long-stack : length stack′ ≡ length stack
 
 -- coloured cells
-abbrev pub Runs : ℕ → ℕ → Start → Card → List ℕ → List ℕ → List ℕ → List ℕ → RunAnswer → List ℕ → List ℕ → List ℕ → List ℕ → Type 0
+abbrev pub Runs : ℕ → ℕ → Start → Card → List ℕ → List ℕ → List ℕ → List ℕ → Reply → List ℕ → List ℕ → List ℕ → List ℕ → Type 0
 Runs w h s c grid report memo stack =
     Ran (runRules w h s c grid (length report) (length memo) (length stack)) (endOf w h s c grid) (boardOf (endOf w h s c grid)) grid report memo stack
 
 -- binary cells: the run is that of their sets, read back
-abbrev pub RunsBinary : ℕ → ℕ → Start → Card → List ℕ → List ℕ → List ℕ → List ℕ → RunAnswer → List ℕ → List ℕ → List ℕ → List ℕ → Type 0
+abbrev pub RunsBinary : ℕ → ℕ → Start → Card → List ℕ → List ℕ → List ℕ → List ℕ → Reply → List ℕ → List ℕ → List ℕ → List ℕ → Type 0
 RunsBinary w h s c grid report memo stack =
     Ran (binaryRules w h s c grid (length report) (length memo) (length stack)) (endOf w h s c (map setOf grid))
     (map cellOf (boardOf (endOf w h s c (map setOf grid)))) grid report memo stack

@@ -13,7 +13,7 @@ ghost use mathlib.Core.List.{map};
 ghost use lib.ListN.{replicate};
 ghost use Rattle.rules.specs.Binary.{setOf, cellOf};
 ghost use Rattle.rules.specs.Card.{blackCard};
-ghost use Rattle.propagation.specs.Calls.{endOf, RunsBinary};
+ghost use Rattle.propagation.specs.Calls.{replyOf, endOf, RunsBinary};
 ghost use Rattle.propagation.specs.Steps.{Blackened, EndedBinary};
 
 fn to_sets(grid: &mut [u32])
@@ -96,7 +96,7 @@ fn run_from<'a>(
     memo: &mut [u8],
     stack: &mut [u32],
 ) -> RunAnswer
-    ensures { λ r. ⌜ RunsBinary width height start (blackCard (now («row_counts» .entry)) (now («row_sizes» .entry)) (now («column_counts» .entry)) (now («column_sizes» .entry))) (now (grid .entry)) (now (report .entry)) (now (memo .entry)) (now (stack .entry)) r (now (grid .exit)) (now (report .exit)) (now (memo .exit)) (now (stack .exit)) ⌝ }
+    ensures { λ r. ⌜ RunsBinary width height start (blackCard (now («row_counts» .entry)) (now («row_sizes» .entry)) (now («column_counts» .entry)) (now («column_sizes» .entry))) (now (grid .entry)) (now (report .entry)) (now (memo .entry)) (now (stack .entry)) (replyOf r) (now (grid .exit)) (now (report .exit)) (now (memo .exit)) (now (stack .exit)) ⌝ }
 {
     let v = judge_binary(
         width,
@@ -146,7 +146,7 @@ pub fn run<'a>(
     memo: &mut [u8],
     stack: &mut [u32],
 ) -> RunAnswer
-    ensures { λ r. ⌜ RunsBinary width height Start.Full (blackCard (now («row_counts» .entry)) (now («row_sizes» .entry)) (now («column_counts» .entry)) (now («column_sizes» .entry))) (now (grid .entry)) (now (report .entry)) (now (memo .entry)) (now (stack .entry)) r (now (grid .exit)) (now (report .exit)) (now (memo .exit)) (now (stack .exit)) ⌝ }
+    ensures { λ r. ⌜ RunsBinary width height Start.Full (blackCard (now («row_counts» .entry)) (now («row_sizes» .entry)) (now («column_counts» .entry)) (now («column_sizes» .entry))) (now (grid .entry)) (now (report .entry)) (now (memo .entry)) (now (stack .entry)) (replyOf r) (now (grid .exit)) (now (report .exit)) (now (memo .exit)) (now (stack .exit)) ⌝ }
 {
     run_from(
         width,
@@ -178,7 +178,7 @@ pub fn run_point<'a>(
     memo: &mut [u8],
     stack: &mut [u32],
 ) -> RunAnswer
-    ensures { λ r. ⌜ RunsBinary width height (Start.Point x y) (blackCard (now («row_counts» .entry)) (now («row_sizes» .entry)) (now («column_counts» .entry)) (now («column_sizes» .entry))) (now (grid .entry)) (now (report .entry)) (now (memo .entry)) (now (stack .entry)) r (now (grid .exit)) (now (report .exit)) (now (memo .exit)) (now (stack .exit)) ⌝ }
+    ensures { λ r. ⌜ RunsBinary width height (Start.Point x y) (blackCard (now («row_counts» .entry)) (now («row_sizes» .entry)) (now («column_counts» .entry)) (now («column_sizes» .entry))) (now (grid .entry)) (now (report .entry)) (now (memo .entry)) (now (stack .entry)) (replyOf r) (now (grid .exit)) (now (report .exit)) (now (memo .exit)) (now (stack .exit)) ⌝ }
 {
     run_from(
         width,

@@ -7,7 +7,7 @@ use rules::ColumnIndex;
 use rules::RowIndex;
 use rules::Verdict;
 ghost use Rattle.card.specs.Steps.{cardOf};
-ghost use Rattle.propagation.specs.Calls.{Runs};
+ghost use Rattle.propagation.specs.Calls.{replyOf, Runs};
 
 fn run_from<'a, 'b>(
     width: usize,
@@ -24,7 +24,7 @@ fn run_from<'a, 'b>(
     memo: &mut [u8],
     stack: &mut [u32],
 ) -> RunAnswer
-    ensures { λ r. ⌜ Runs width height start (cardOf (now («row_counts» .entry)) (now («row_sizes» .entry)) (now («row_colours» .entry)) (now («column_counts» .entry)) (now («column_sizes» .entry)) (now («column_colours» .entry))) (now (grid .entry)) (now (report .entry)) (now (memo .entry)) (now (stack .entry)) r (now (grid .exit)) (now (report .exit)) (now (memo .exit)) (now (stack .exit)) ⌝ }
+    ensures { λ r. ⌜ Runs width height start (cardOf (now («row_counts» .entry)) (now («row_sizes» .entry)) (now («row_colours» .entry)) (now («column_counts» .entry)) (now («column_sizes» .entry)) (now («column_colours» .entry))) (now (grid .entry)) (now (report .entry)) (now (memo .entry)) (now (stack .entry)) (replyOf r) (now (grid .exit)) (now (report .exit)) (now (memo .exit)) (now (stack .exit)) ⌝ }
 {
     let v = judge(
         width,
@@ -76,7 +76,7 @@ pub fn run<'a, 'b>(
     memo: &mut [u8],
     stack: &mut [u32],
 ) -> RunAnswer
-    ensures { λ r. ⌜ Runs width height Start.Full (cardOf (now («row_counts» .entry)) (now («row_sizes» .entry)) (now («row_colours» .entry)) (now («column_counts» .entry)) (now («column_sizes» .entry)) (now («column_colours» .entry))) (now (grid .entry)) (now (report .entry)) (now (memo .entry)) (now (stack .entry)) r (now (grid .exit)) (now (report .exit)) (now (memo .exit)) (now (stack .exit)) ⌝ }
+    ensures { λ r. ⌜ Runs width height Start.Full (cardOf (now («row_counts» .entry)) (now («row_sizes» .entry)) (now («row_colours» .entry)) (now («column_counts» .entry)) (now («column_sizes» .entry)) (now («column_colours» .entry))) (now (grid .entry)) (now (report .entry)) (now (memo .entry)) (now (stack .entry)) (replyOf r) (now (grid .exit)) (now (report .exit)) (now (memo .exit)) (now (stack .exit)) ⌝ }
 {
     run_from(
         width,
@@ -112,7 +112,7 @@ pub fn run_point<'a, 'b>(
     memo: &mut [u8],
     stack: &mut [u32],
 ) -> RunAnswer
-    ensures { λ r. ⌜ Runs width height (Start.Point x y) (cardOf (now («row_counts» .entry)) (now («row_sizes» .entry)) (now («row_colours» .entry)) (now («column_counts» .entry)) (now («column_sizes» .entry)) (now («column_colours» .entry))) (now (grid .entry)) (now (report .entry)) (now (memo .entry)) (now (stack .entry)) r (now (grid .exit)) (now (report .exit)) (now (memo .exit)) (now (stack .exit)) ⌝ }
+    ensures { λ r. ⌜ Runs width height (Start.Point x y) (cardOf (now («row_counts» .entry)) (now («row_sizes» .entry)) (now («row_colours» .entry)) (now («column_counts» .entry)) (now («column_sizes» .entry)) (now («column_colours» .entry))) (now (grid .entry)) (now (report .entry)) (now (memo .entry)) (now (stack .entry)) (replyOf r) (now (grid .exit)) (now (report .exit)) (now (memo .exit)) (now (stack .exit)) ⌝ }
 {
     run_from(
         width,
