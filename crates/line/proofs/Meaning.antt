@@ -16,8 +16,8 @@ use Rattle.rules.specs.declared.Verdict.the-variants.{Fine, Bad}
 use Rattle.rules.proofs.Placements.{placement-proper}
 use Rattle.rules.proofs.Binaries.{line-right, line-only, binary-white, binary-black}
 use Rattle.rules.proofs.Blocks.{test-legal}
+use Rattle.rules.proofs.Replies.{by-checking}
 use Rattle.line.specs.Calls.{numberOf, output, lineRules, binaryRules, SolvesLine, SolvesBinaryLine}
-use Rattle.line.proofs.Unique.{by-checking}
 use Rattle.line.proofs.Told.{binary-ready}
 
 -- what the numbers 8 and 0 say of rules and answer

@@ -6,26 +6,13 @@ use Prim.Native.Nat.{ℕ}
 use native.Mathlib.Omega.{arith}
 use lib.ListN.{length}
 use Rattle.rules.specs.Block.{Lent}
-use Rattle.rules.specs.Refusal.{refusalNumber, Rule, verdict}
+use Rattle.rules.specs.Refusal.{Rule, verdict}
 use Rattle.rules.specs.declared.Refusal.{Refusal}
-use Rattle.rules.specs.declared.Refusal.the-variants.{BadLength, BadRoom, TooManyBlocks, BadBlock, BadCell, OutsideGrid, ShortReport, BadCode, NoSpace}
 use Rattle.rules.specs.declared.Verdict.the-variants.{Bad}
-use Rattle.rules.proofs.Replies.{same, number-one}
+use Rattle.rules.proofs.Replies.{same, number-one, by-checking}
 use Rattle.line.specs.Calls.{answerNumber, lineRules, binaryRules, Solves, SolvesLine, SolvesBinaryLine}
 use Rattle.line.specs.declared.LineAnswer.{LineAnswer}
 use Rattle.line.specs.declared.LineAnswer.the-variants.{Done, Unsolvable, Refused}
-
--- no refusal by checking has the number 0 or 8
-pub by-checking : (w : Refusal) → (refusalNumber w ≡ 0 → ⊥) × (refusalNumber w ≡ 8 → ⊥)
-by-checking BadLength = (λ e. omega arith, λ e. omega arith)
-by-checking BadRoom = (λ e. omega arith, λ e. omega arith)
-by-checking TooManyBlocks = (λ e. omega arith, λ e. omega arith)
-by-checking BadBlock = (λ e. omega arith, λ e. omega arith)
-by-checking BadCell = (λ e. omega arith, λ e. omega arith)
-by-checking OutsideGrid = (λ e. omega arith, λ e. omega arith)
-by-checking ShortReport = (λ e. omega arith, λ e. omega arith)
-by-checking BadCode = (λ e. omega arith, λ e. omega arith)
-by-checking NoSpace = (λ e. omega arith, λ e. omega arith)
 
 answer-one : (r s : LineAnswer) → answerNumber r ≡ answerNumber s → r ≡ s
 answer-one Done Done e = refl

@@ -3,3 +3,6 @@ pub mod Cells
 pub mod Updating
 pub mod Running
 pub mod Told
+pub mod Order
+pub mod Unique
+pub mod Meaning

@@ -23,7 +23,8 @@ use Rattle.rules.specs.declared.Refusal.the-variants.{BadCell, OutsideGrid, Sho
 use Rattle.rules.specs.declared.Verdict.the-variants.{Fine, Bad}
 use Rattle.rules.proofs.Blocks.{blacks-take}
 use Rattle.rules.proofs.Cards.{straight-proper, straight-right}
-use Rattle.rules.proofs.Runs.{full-reported, point-reported}
+use Rattle.rules.proofs.Runs.{full-spent, point-spent}
+use Rattle.rules.proofs.Searching.{not-above}
 use Rattle.rules.proofs.Tests.{both-true}
 use Rattle.rules.proofs.Verdicts.{bad-not-fine, fine-cons, append-bad, append-fine, append-parts}
 use Rattle.loops.proofs.Going.{written-sets}
@@ -113,6 +114,13 @@ module _ (w h : ℕ) (s : Start) (c : Card) (grid report memo stack : List ℕ) 
       let q = append-parts (cellRules grid) ends (p .1) in
       kept (map setOf grid) (length-map grid setOf) (p .0) (q .1)
 
+  pub cells-small : verdict (binaryRules w h s c grid (length report) (length memo) (length stack)) ≡ Fine → (i : ℕ) → getD grid i 0 ≤ 2
+  cells-small e =
+      let ends = endRules w h s (length report) (room (map setOf grid)) in
+      let p = append-parts (cardRules w h (length grid) c (length memo) (length stack)) (cellRules grid ++ ends) e in
+      let q = append-parts (cellRules grid) ends (p .1) in
+      not-above 2 grid (fine-cons (BadCell when anyOf (λ n. ltb 2 n) grid) [] (q .0) .0)
+
 -- ---- where a run begins
 
 start-lines : (w h : ℕ) (s : Start) → InGrid w h s → Lines w h (startStack w h s)
@@ -134,20 +142,24 @@ module _ {w h : ℕ} {s : Start} {c : Card} {b report memo stack : List ℕ} (j 
         reports = j .reports;
       }
 
-  proper : (l : LinePosition) (p : List ℕ) → Straight w h (clueOf c) l p → Proper p
+  pub proper : (l : LinePosition) (p : List ℕ) → Straight w h (clueOf c) l p → Proper p
   proper = straight-proper w h (clueOf c) (clue-legal (j .right))
+
+  -- every entry costs a colour
+  pub spent : length (reportOf (endOf w h s c b)) + room (boardOf (endOf w h s c b)) ≤ room b
+  spent = go s (j .inside)
+    where
+      go : (s : Start) → InGrid w h s → length (reportOf (endOf w h s c b)) + room (boardOf (endOf w h s c b)) ≤ room b
+      go Full i =
+          full-spent w h proper (j .grid .wide) (j .grid .high) (solveStraight w h (clueOf c))
+          (straight-right w h (clueOf c) (clue-legal (j .right))) b (sized (j .grid))
+      go (Point x y) i =
+          point-spent w h proper (j .grid .wide) (j .grid .high) (solveStraight w h (clueOf c))
+          (straight-right w h (clueOf c) (clue-legal (j .right))) (x .0) (y .0) b (i .0) (i .1) (sized (j .grid))
 
   -- the report has room for what is told
   pub told-fits : length (reportOf (endOf w h s c b)) ≤ length report
-  told-fits = omega (arith, go s (j .inside), j .reports)
-    where
-      go : (s : Start) → InGrid w h s → length (reportOf (endOf w h s c b)) ≤ room b
-      go Full i =
-          full-reported w h proper (j .grid .wide) (j .grid .high) (solveStraight w h (clueOf c))
-          (straight-right w h (clueOf c) (clue-legal (j .right))) b (sized (j .grid))
-      go (Point x y) i =
-          point-reported w h proper (j .grid .wide) (j .grid .high) (solveStraight w h (clueOf c))
-          (straight-right w h (clueOf c) (clue-legal (j .right))) (x .0) (y .0) b (i .0) (i .1) (sized (j .grid))
+  told-fits = omega (arith, spent, j .reports)
 
 end-is : (w h : ℕ) (s : Start) (c : Card) (b : List ℕ)
     → run w h (solveStraight w h (clueOf c)) (room b + startCount w h s) (startStack w h s) b [] 0 ≡ endOf w h s c b

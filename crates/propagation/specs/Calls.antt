@@ -1,5 +1,6 @@
 -- What the four public calls of this crate promise: full runs and runs from a point, with coloured and with binary cells.
 use mathlib.Core.Path.{_≡_}
+use mathlib.Core.Logic.{_⊎_}
 use mathlib.Core.Bool.{Bool, true, not, _&&_}
 use mathlib.Core.List.{List, [], _∷_, _++_, map}
 use mathlib.Core.Option.{Option, none, some}
@@ -106,3 +107,16 @@ abbrev pub RunsBinary : ℕ → ℕ → Start → Card → List ℕ → List ℕ
 RunsBinary w h s c grid report memo stack =
     Ran (binaryRules w h s c grid (length report) (length memo) (length stack)) (endOf w h s c (map setOf grid))
     (map cellOf (boardOf (endOf w h s c (map setOf grid)))) grid report memo stack
+
+-- ---- a call's own answer, whichever kind of cell it has
+
+-- a call on a board of sets, its reply, and the board of sets that it left
+pub data Answered (w h : ℕ) (s : Start) (c : Card) : List ℕ → Reply → List ℕ → Type 0 where
+  coloured : {grid report memo stack : List ℕ} {t : Reply} {grid′ report′ memo′ stack′ : List ℕ}
+      → Runs w h s c grid report memo stack t grid′ report′ memo′ stack′ → Answered w h s c grid t grid′
+  binary : {grid report memo stack : List ℕ} {t : Reply} {grid′ report′ memo′ stack′ : List ℕ}
+      → RunsBinary w h s c grid report memo stack t grid′ report′ memo′ stack′ → Answered w h s c (map setOf grid) t (map setOf grid′)
+
+-- it passed the checks: its number is 0 or 8
+abbrev pub Passed : Reply → Type 0
+Passed t = (t .number ≡ 0) ⊎ (t .number ≡ 8)

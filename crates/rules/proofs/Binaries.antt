@@ -1,7 +1,7 @@
 -- A line's answer is what the rules say, and nothing else is; and the binary reading: a cell becomes 1 or 2 if all agreeing placements say so, else 0.
-use mathlib.Core.Path.{_≡_, refl, ap, _∙_, subst}
+use mathlib.Core.Path.{_≡_, refl, ap, ap₂, _∙_, subst}
 use mathlib.Core.Logic.{_↔_}
-use mathlib.Core.List.{List, map}
+use mathlib.Core.List.{List, [], _∷_, map}
 use mathlib.Core.Option.{Option}
 use Prim.Native.Nat.{ℕ, zero, suc, _^_, _≤_, _<_}
 use native.Mathlib.Omega.{arith}
@@ -32,6 +32,21 @@ set-cell zero p h = omega arith
 set-cell (suc zero) p h = refl
 set-cell (suc (suc zero)) p h = refl
 set-cell (suc (suc (suc n))) p h = omega arith
+
+-- the same of lists
+pub sets-back : (b : List ℕ) → ((i : ℕ) → i < length b → (0 < getD b i 0) × (getD b i 0 ≤ 3)) → map setOf (map cellOf b) ≡ b
+sets-back [] f = refl
+sets-back (a ∷ b) f =
+    ap₂ (λ (x : ℕ) (l : List ℕ). x ∷ l) (let h = f 0 (omega arith) in set-cell a (h .0) (h .1)) (sets-back b (λ i k. f (suc i) (omega arith)))
+
+set-small : (c : ℕ) → c ≤ 2 → setOf c ≤ 3
+set-small zero h = omega arith
+set-small (suc n) h = omega arith
+
+pub sets-small : (l : List ℕ) → ((i : ℕ) → getD l i 0 ≤ 2) → (i : ℕ) → getD (map setOf l) i 0 ≤ 3
+sets-small [] f i = omega arith
+sets-small (a ∷ l) f zero = set-small a (f 0)
+sets-small (a ∷ l) f (suc i) = sets-small l (λ j. f (suc j)) i
 
 module _ {P : List ℕ → Type 0} (o : (p : List ℕ) → P p → Proper p) {l m : List ℕ} (x : Exact P l m) (i : ℕ) (r : i < length l) where
   -- the set of cell i is the one colour 2 ^ k exactly if all agreeing placements give that colour

@@ -19,7 +19,7 @@ pub mod Readings
 pub mod Settled
 pub mod Stacks
 pub mod Rooms
-pub mod Runs
 pub mod RunSteps
+pub mod Runs
 pub mod Cards
 pub mod Examples

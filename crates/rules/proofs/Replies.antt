@@ -33,6 +33,18 @@ number-back NoSpace = refl
 pub number-one : (w u : Refusal) → refusalNumber w ≡ refusalNumber u → w ≡ u
 number-one w u e = sym (number-back w) ∙ ap byNumber e ∙ number-back u
 
+-- no refusal by checking has the number 0 or 8
+pub by-checking : (w : Refusal) → (refusalNumber w ≡ 0 → ⊥) × (refusalNumber w ≡ 8 → ⊥)
+by-checking BadLength = (λ e. omega arith, λ e. omega arith)
+by-checking BadRoom = (λ e. omega arith, λ e. omega arith)
+by-checking TooManyBlocks = (λ e. omega arith, λ e. omega arith)
+by-checking BadBlock = (λ e. omega arith, λ e. omega arith)
+by-checking BadCell = (λ e. omega arith, λ e. omega arith)
+by-checking OutsideGrid = (λ e. omega arith, λ e. omega arith)
+by-checking ShortReport = (λ e. omega arith, λ e. omega arith)
+by-checking BadCode = (λ e. omega arith, λ e. omega arith)
+by-checking NoSpace = (λ e. omega arith, λ e. omega arith)
+
 pub head-one : {a b : ℕ} {l m : List ℕ} → a ∷ l ≡ b ∷ m → a ≡ b
 head-one e = cc
 

@@ -12,7 +12,7 @@ use lib.Seq.{ext-getD}
 use Rattle.rules.specs.Answer.{Exact, Answers, Proper}
 use Rattle.rules.specs.declared.LinePosition.{LinePosition}
 use Rattle.rules.specs.Board.{row, column, len, On, place, cross, lineOf, store, Stable, Kept, Widest}
-use Rattle.rules.specs.Run.{sameLine, changed, pushAll, room, Outcome, done, refused, onSome, run, Runs, stops, refuses, steps, fullStack, pointStack, fullRun, pointRun, Ends, Alike, reportOf}
+use Rattle.rules.specs.Run.{sameLine, changed, pushAll, room, Outcome, done, refused, onSome, run, Runs, stops, refuses, steps, fullStack, pointStack, fullRun, pointRun, Ends, Alike, boardOf, reportOf}
 use Rattle.rules.proofs.Colours.{ones-pos}
 use Rattle.rules.proofs.Answers.{narrows, full}
 use Rattle.rules.proofs.Boards.{find, at-one, place-lt, place-inj, length-line, getD-line, store-at, store-other}
@@ -20,6 +20,7 @@ use Rattle.rules.proofs.Settled.{step-size, step-kept, step-stable, ref
 use Rattle.rules.specs.declared.LinePosition.the-variants.{Row, Column}
 use Rattle.rules.proofs.Stacks.{line-cases, mem-pushAll, cross-pushAll, pushAll-mem, length-pushAll, on-stack, changed-in, changed-not, length-fullStack, fullStack-on, on-fullStack}
 use Rattle.rules.proofs.Rooms.{room-put}
+use Rattle.rules.proofs.RunSteps.{runs-one}
 
 -- ---- which lines meet
 
@@ -175,24 +176,25 @@ module _ {P : LinePosition → List ℕ → Type 0} (w h : ℕ) (proper : (l : L
           let o = v .lines l (List·Memᴰ·head refl) in
           steps m q (up _ _ _ _ (omega (arith, measure-step l st b m o a (v .size))) (next l st b m o a (v .size) v))
 
-  -- the report has at most as many entries as the room, whatever stands on the stack
-  report-le : (n : ℕ) (st : List LinePosition) (b r : List ℕ) (k : ℕ) → length b ≡ h * w → ((l : LinePosition) → List·Memᴰ l st → On w h l)
-      → length (reportOf (run w h solve n st b r k)) ≤ length r + room b
+  -- every entry costs a colour: what is told and the room that is left are at most what was told before and the room at the start
+  spent-le : (n : ℕ) (st : List LinePosition) (b r : List ℕ) (k : ℕ) → length b ≡ h * w → ((l : LinePosition) → List·Memᴰ l st → On w h l)
+      → length (reportOf (run w h solve n st b r k)) + room (boardOf (run w h solve n st b r k)) ≤ length r + room b
   unfolding run
-  report-le zero st b r k size on = omega arith
-  report-le (suc n) [] b r k size on = omega arith
-  report-le (suc n) (l ∷ st) b r k size on =
-      go (solve l (lineOf w h b l)) (right l (lineOf w h b l)) (λ st′ b′ r′ k′. report-le n st′ b′ r′ k′)
+  spent-le zero st b r k size on = omega arith
+  spent-le (suc n) [] b r k size on = omega arith
+  spent-le (suc n) (l ∷ st) b r k size on =
+      go (solve l (lineOf w h b l)) (right l (lineOf w h b l)) (λ st′ b′ r′ k′. spent-le n st′ b′ r′ k′)
     where
       here : On w h l
       here = on l (List·Memᴰ·head refl)
 
       go : (a : Option (List ℕ)) → Answers (P l) (lineOf w h b l) a
           → ((st′ : List LinePosition) (b′ r′ : List ℕ) (k′ : ℕ) → length b′ ≡ h * w → ((l : LinePosition) → List·Memᴰ l st′ → On w h l)
-          → length (reportOf (run w h solve n st′ b′ r′ k′)) ≤ length r′ + room b′)
-          → length (reportOf (onSome a (refused l b r k)
-          (λ m. run w h solve n (pushAll l (changed 0 (lineOf w h b l) m) st) (store w l m b) (r ++ map (place w l) (changed 0 (lineOf w h b l) m)) (suc k))))
-          ≤ length r + room b
+          → length (reportOf (run w h solve n st′ b′ r′ k′)) + room (boardOf (run w h solve n st′ b′ r′ k′)) ≤ length r′ + room b′)
+          → (let o = onSome a (refused l b r k)
+          (λ m. run w h solve n (pushAll l (changed 0 (lineOf w h b l) m) st) (store w l m b)
+          (r ++ map (place w l) (changed 0 (lineOf w h b l) m)) (suc k)) in
+          length (reportOf o) + room (boardOf o) ≤ length r + room b)
       go none a up = omega arith
       go (some m) a up =
           let js = changed 0 (lineOf w h b l) m in
@@ -205,16 +207,18 @@ module _ {P : LinePosition → List ℕ → Type 0} (w h : ℕ) (proper : (l : L
             length-map js (place w l),
           )
 
-  pub full-reported : (b : List ℕ) → length b ≡ h * w → length (reportOf (fullRun w h solve b)) ≤ room b
+  pub full-spent : (b : List ℕ) → length b ≡ h * w
+      → length (reportOf (fullRun w h solve b)) + room (boardOf (fullRun w h solve b)) ≤ room b
   unfolding fullRun
-  full-reported b size = omega (arith, report-le (room b + (w + h)) (fullStack w h) b [] 0 size (fullStack-on w h))
+  full-spent b size = omega (arith, spent-le (room b + (w + h)) (fullStack w h) b [] 0 size (fullStack-on w h))
 
   point-on : (x y : ℕ) → x < w → y < h → (l : LinePosition) → List·Memᴰ l (pointStack x y) → On w h l
   point-on x y p q l n = ⊎-elim (λ e. subst (On w h) (sym e) q) (λ u. subst (On w h) (sym (List·Memᴰ·eq-of-singleton u)) p) (List·Memᴰ·cases-cons n)
 
-  pub point-reported : (x y : ℕ) (b : List ℕ) → x < w → y < h → length b ≡ h * w → length (reportOf (pointRun w h solve x y b)) ≤ room b
+  pub point-spent : (x y : ℕ) (b : List ℕ) → x < w → y < h → length b ≡ h * w
+      → length (reportOf (pointRun w h solve x y b)) + room (boardOf (pointRun w h solve x y b)) ≤ room b
   unfolding pointRun
-  point-reported x y b p q size = omega (arith, report-le (room b + 2) (pointStack x y) b [] 0 size (point-on x y p q))
+  point-spent x y b p q size = omega (arith, spent-le (room b + 2) (pointStack x y) b [] 0 size (point-on x y p q))
 
   -- a run from any stack beside which every line is stable
   pub starts : (st : List LinePosition) (b : List ℕ) → length b ≡ h * w → ((l : LinePosition) → List·Memᴰ l st → On w h l)
@@ -236,6 +240,14 @@ module _ {P : LinePosition → List ℕ → Type 0} (w h : ℕ) (proper : (l : L
   full-right b size =
       run-right (room b + (w + h)) (fullStack w h) b [] 0 (omega (arith, length-fullStack w h))
       (starts (fullStack w h) b size (fullStack-on w h) (λ l o. inl (on-fullStack w h l o)))
+
+  -- the order of lines does not matter: a run of the rules from any stack that has all lines of the board ends as demand 3 says
+  pub any-order : (st : List LinePosition) (b : List ℕ) → length b ≡ h * w → ((l : LinePosition) → List·Memᴰ l st → On w h l)
+      → ((l : LinePosition) → On w h l → List·Memᴰ l st) → {o : Outcome} → Runs w h solve st b [] 0 o → Ends P w h b o
+  any-order st b size on all {o} d =
+      let v = starts st b size on (λ l q. inl (all l q)) in
+      let n = room b + length st in
+      subst (Ends P w h b) (runs-one w h solve (run-runs n st b [] 0 (omega arith) v) d) (run-right n st b [] 0 (omega arith) v)
 
 -- two runs from one start, each of which ends as demand 3 says, end alike
 pub ends-alike : {P : LinePosition → List ℕ → Type 0} (w h : ℕ) (proper : (l : LinePosition) (p : List ℕ) → P l p → Proper p)

@@ -2,7 +2,8 @@
 use mathlib.Core.Path.{_≡_, refl, sym, _∙_, subst}
 use mathlib.Core.Logic.{_⊎_, inl, inr, ⊎-elim, _≢_}
 use mathlib.Core.List.{List}
-use Prim.Native.Nat.{ℕ, _+_, _*_, _<_}
+use Prim.Native.Nat.{ℕ, _+_, _*_, _/_, _%_, _<_}
+use native.Mathlib.Nat.{div-add-mod', div-lt-iff-lt-mul, mod-lt}
 use native.Mathlib.Omega.{arith}
 use lib.ListN.{length, getD}
 use Rattle.rules.specs.Colour.{Has, Subset}
@@ -98,6 +99,14 @@ module _ {P : LinePosition → List ℕ → Type 0} (w h : ℕ) (proper : (l : L
   pub settled-stable : {b : List ℕ} → 0 < w → 0 < h → Settled P w h b → (l : LinePosition) → On w h l → Stable P w h b l
   settled-stable {b} wide high z l o =
       record { long = refl; any = some-shown wide high z l o; sound = settled-shown z l o; whole = λ i k s. shown-has (proper l) s }
+
+  -- each cell of a settled board has a colour
+  pub settled-cell : {b : List ℕ} → 0 < w → Settled P w h b → (i : ℕ) → i < length b → 0 < getD b i 0
+  settled-cell {b} wide z i k =
+      let e : i / w * w + i % w ≡ i = div-add-mod' i w in
+      let f = z .filled (i % w) (i / w) (mod-lt i wide) (div-lt-iff-lt-mul wide .1 (rw (z .size) at k)) in
+      let d : getD b i 0 ≢ 0 = rw e at f in
+      omega arith
 
   -- ---- the widest settled board
 

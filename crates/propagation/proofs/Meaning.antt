@@ -1,0 +1,231 @@
+-- Demand 3 of the calls' own answers, what follows from it, and the bounds of the counts: for both kinds of cell, whose boards are read as sets.
+use mathlib.Core.Path.{_≡_, refl, sym, ap, _∙_, subst}
+use mathlib.Core.Logic.{_⊎_, inl, inr, ⊎-elim, _≢_, _↔_}
+use mathlib.Core.Bool.{true, false}
+use mathlib.Core.List.{List, [], map, List·Memᴰ}
+use mathlib.Core.Option.{none}
+use Prim.Native.Nat.{ℕ, _+_, _≤_, _<_}
+use native.Mathlib.Omega.{arith}
+use lib.ListN.{length, getD}
+use Rattle.rules.specs.Answer.{Proper, Within}
+use Rattle.rules.specs.Binary.{setOf, cellOf}
+use Rattle.rules.specs.Board.{row, column, On, Settled, Stable, Picture, Widest, Unsettled}
+use Rattle.rules.specs.Card.{Card, clueOf, Straight, solveStraight}
+use Rattle.rules.specs.Refusal.{verdict}
+use Rattle.rules.specs.Run.{room, Outcome, done, refused, Runs, boardOf, reportOf, solvedOf, Ends, Alike}
+use Rattle.rules.specs.declared.LinePosition.{LinePosition}
+use Rattle.rules.specs.declared.ColumnIndex.{ColumnIndex}
+use Rattle.rules.specs.declared.RowIndex.{RowIndex}
+use Rattle.rules.specs.declared.Verdict.{Verdict}
+use Rattle.rules.specs.declared.Verdict.the-variants.{Fine, Bad}
+use Rattle.rules.proofs.Binaries.{sets-back, sets-small}
+use Rattle.rules.proofs.Cards.{straight-right, straight-full, straight-point}
+use Rattle.rules.proofs.Colours.{subset-num}
+use Rattle.rules.proofs.Replies.{by-checking}
+use Rattle.rules.proofs.RunSteps.{full-solved, point-solved}
+use Rattle.rules.proofs.Runs.{any-order}
+use Rattle.rules.proofs.Settled.{settled-cell, picture-settled, widest-one, widest-again, widest-mono, widest-picture}
+use Rattle.card.proofs.Clued.{clue-legal}
+use Rattle.propagation.specs.declared.Start.{Start}
+use Rattle.propagation.specs.declared.Start.the-variants.{Full, Point}
+use Rattle.propagation.specs.Calls.{runRules, binaryRules, Reply, reply, replyTo, endOf, Answered, coloured, binary, Passed}
+use Rattle.propagation.specs.Steps.{startCount, Judged}
+use Rattle.propagation.proofs.Updating.{sized}
+use Rattle.propagation.proofs.Told.{judged, judged-binary, proper, spent, cells-small}
+
+-- the placements of a card's lines
+abbrev pub Placed : ℕ → ℕ → Card → LinePosition → List ℕ → Type 0
+Placed w h c = Straight w h (clueOf c)
+
+-- ---- what a call that passed the checks says of the run
+
+record Ending (w h : ℕ) (s : Start) (c : Card) (b₀ : List ℕ) (t : Reply) (b : List ℕ) : Type 0 where
+  report : List ℕ
+  memo : List ℕ
+  stack : List ℕ
+  was : Judged w h s c b₀ report memo stack
+  tells : t ≡ replyTo (endOf w h s c b₀)
+  board : Widest (Placed w h c) w h b₀ (boardOf (endOf w h s c b₀)) → b ≡ boardOf (endOf w h s c b₀)
+
+passed-fine : (v : Verdict) (o : Outcome) (t : Reply) → Passed t → t ≡ reply v o → v ≡ Fine
+passed-fine Fine o t p e = refl
+passed-fine (Bad w) o t (inl p) e = absurd (by-checking w .0 (sym (ap (λ r. r .number) e) ∙ p))
+passed-fine (Bad w) o t (inr p) e = absurd (by-checking w .1 (sym (ap (λ r. r .number) e) ∙ p))
+
+-- a settled board of sets within binary cells is read back from its cells
+read-back : {P : LinePosition → List ℕ → Type 0} (w h : ℕ) → ((l : LinePosition) (p : List ℕ) → P l p → Proper p) → 0 < w
+    → (grid b : List ℕ) → ((i : ℕ) → getD grid i 0 ≤ 2) → Widest P w h (map setOf grid) b → map setOf (map cellOf b) ≡ b
+read-back w h o wide grid b small z =
+    sets-back b
+    (λ i k. (
+      settled-cell w h o wide (z .settled) i k,
+      omega (arith, subset-num (getD b i 0) (getD (map setOf grid) i 0) (z .kept .within .each i), sets-small grid small i),
+    ))
+
+ending : {w h : ℕ} {s : Start} {c : Card} {b₀ : List ℕ} {t : Reply} {b : List ℕ} → Answered w h s c b₀ t b → Passed t → Ending w h s c b₀ t b
+ending {w} {h} {s} {c} {t = t} (coloured {grid = grid} {report = report} {memo = memo} {stack = stack} a) p =
+    let e = passed-fine (verdict (runRules w h s c grid (length report) (length memo) (length stack))) (endOf w h s c grid) t p (a .tells) in
+    record {
+      report = report;
+      memo = memo;
+      stack = stack;
+      was = judged w h s c grid report memo stack e;
+      tells = rw e at (a .tells);
+      board = λ z. rw e at (a .leaves);
+    }
+ending {w} {h} {s} {c} {t = t} (binary {grid = grid} {report = report} {memo = memo} {stack = stack} a) p =
+    let e =
+    passed-fine (verdict (binaryRules w h s c grid (length report) (length memo) (length stack))) (endOf w h s c (map setOf grid)) t p
+    (a .tells) in
+    let j = judged-binary w h s c grid report memo stack e in
+    record {
+      report = report;
+      memo = memo;
+      stack = stack;
+      was = j;
+      tells = rw e at (a .tells);
+      board = λ z.
+          ap (map setOf) (rw e at (a .leaves))
+          ∙ read-back w h (proper j) (j .grid .wide) grid (boardOf (endOf w h s c (map setOf grid)))
+          (cells-small w h s c grid report memo stack e) z;
+    }
+
+-- what the numbers 0 and 8 say of a run's end
+module _ {P : LinePosition → List ℕ → Type 0} (w h : ℕ) (b₀ : List ℕ) where
+  zero-widest : (o : Outcome) (t : Reply) → t ≡ replyTo o → t .number ≡ 0 → Ends P w h b₀ o → Widest P w h b₀ (boardOf o)
+  zero-widest (done b r k) t e n z = z
+  zero-widest (refused l b r k) t e n z = absurd (let q : _≡_ {A = ℕ} 0 8 = sym n ∙ ap (λ x. x .number) e in omega arith)
+
+  eight-unsettled : (o : Outcome) (t : Reply) → t ≡ replyTo o → t .number ≡ 8 → Ends P w h b₀ o → Unsettled P w h b₀
+  eight-unsettled (done b r k) t e n z = absurd (let q : _≡_ {A = ℕ} 8 0 = sym n ∙ ap (λ x. x .number) e in omega arith)
+  eight-unsettled (refused l b r k) t e n z = z
+
+-- every line but the two through a point is stable
+abbrev pub OthersStable : ℕ → ℕ → Card → ColumnIndex → RowIndex → List ℕ → Type 0
+OthersStable w h c x y b = (l : LinePosition) → On w h l → l ≢ row (y .0) → l ≢ column (x .0) → Stable (Placed w h c) w h b l
+
+-- what is asked of the start: nothing for a full run
+abbrev pub Fit : ℕ → ℕ → Start → Card → List ℕ → Type 0
+Fit w h Full c b = Unit {0}
+Fit w h (Point x y) c b = OthersStable w h c x y b
+
+ends : {w h : ℕ} (s : Start) {c : Card} {b report memo stack : List ℕ} → Judged w h s c b report memo stack → Fit w h s c b
+    → Ends (Placed w h c) w h b (endOf w h s c b)
+ends {w} {h} Full {c} {b} j f = straight-full w h (clueOf c) (clue-legal (j .right)) (j .grid .wide) (j .grid .high) b (sized (j .grid))
+ends {w} {h} (Point x y) {c} {b} j f =
+    straight-point w h (clueOf c) (clue-legal (j .right)) (j .grid .wide) (j .grid .high) (x .0) (y .0) b (j .inside .0) (j .inside .1)
+    (sized (j .grid)) f
+
+-- ---- demand 3
+
+module _ {w h : ℕ} {s : Start} {c : Card} {b₀ : List ℕ} {t : Reply} {b : List ℕ} (a : Answered w h s c b₀ t b) (f : Fit w h s c b₀) where
+  -- with 0 a run ends with the widest settled board within its start
+  pub ends-widest : t .number ≡ 0 → Widest (Placed w h c) w h b₀ b
+  ends-widest n =
+      let v = ending a (inl n) in
+      let z = zero-widest w h b₀ (endOf w h s c b₀) t (v .tells) n (ends s (v .was) f) in
+      rw (v .board z) z
+
+  -- with 8 no settled board lies within its start
+  pub ends-unsettled : t .number ≡ 8 → Unsettled (Placed w h c) w h b₀
+  ends-unsettled n = let v = ending a (inr n) in eight-unsettled w h b₀ (endOf w h s c b₀) t (v .tells) n (ends s (v .was) f)
+
+  -- and so 8 exactly if there is none
+  pub refused-exactly : Passed t → (t .number ≡ 8) ↔ Unsettled (Placed w h c) w h b₀
+  refused-exactly p = (ends-unsettled, λ u. ⊎-elim (λ n. let z = ends-widest n in absurd (u .none b (z .settled) (z .kept .within))) (λ n. n) p)
+
+-- a full run asks nothing of its start
+module _ {w h : ℕ} {c : Card} {b₀ : List ℕ} {t : Reply} {b : List ℕ} (a : Answered w h Full c b₀ t b) where
+  pub full-widest : t .number ≡ 0 → Widest (Placed w h c) w h b₀ b
+  full-widest n = ends-widest a tt n
+
+  pub full-refused : Passed t → (t .number ≡ 8) ↔ Unsettled (Placed w h c) w h b₀
+  full-refused p = refused-exactly a tt p
+
+-- ---- what follows
+
+module _ {w h : ℕ} {c : Card} {b₀ : List ℕ} {t : Reply} {b : List ℕ} (a : Answered w h Full c b₀ t b) (n : t .number ≡ 0) where
+  kind : (l : LinePosition) (p : List ℕ) → Placed w h c l p → Proper p
+  kind = proper (ending a (inl n) .was)
+
+  -- the order of lines cannot matter: a run by the rules, from all lines in any order, ends on the same board
+  pub same-board : (st : List LinePosition) → ((l : LinePosition) → List·Memᴰ l st → On w h l) → ((l : LinePosition) → On w h l → List·Memᴰ l st)
+      → (b′ r : List ℕ) (k : ℕ) → Runs w h (solveStraight w h (clueOf c)) st b₀ [] 0 (done b′ r k) → b′ ≡ b
+  same-board st on all b′ r k d =
+      let j = ending a (inl n) .was in
+      widest-one w h kind
+      (any-order w h kind (j .grid .wide) (j .grid .high) (solveStraight w h (clueOf c)) (straight-right w h (clueOf c) (clue-legal (j .right)))
+      st b₀ (sized (j .grid)) on all d)
+      (full-widest a n)
+
+  -- a second run changes nothing and reports nothing
+  module _ {t′ : Reply} {b′ : List ℕ} (a′ : Answered w h Full c b t′ b′) (p : Passed t′) where
+    pub again-done : t′ .number ≡ 0
+    again-done =
+        ⊎-elim (λ m. m) (λ m. let z = full-widest a n in absurd (full-refused a′ p .0 m .none b (z .settled) (widest-again w h kind z .kept .within))) p
+
+    pub again-same : b′ ≡ b
+    again-same = widest-one w h kind (full-widest a′ again-done) (widest-again w h kind (full-widest a n))
+
+    pub again-silent : t′ .entries ≡ 0
+    again-silent = silent (endOf w h Full c b) (v .tells) (spent (v .was)) (sym (v .board z) ∙ again-same)
+      where
+        v : Ending w h Full c b t′ b′
+        v = ending a′ p
+
+        z : Widest (Placed w h c) w h b (boardOf (endOf w h Full c b))
+        z = zero-widest w h b (endOf w h Full c b) t′ (v .tells) again-done (ends Full (v .was) tt)
+
+        silent : (o : Outcome) → t′ ≡ replyTo o → length (reportOf o) + room (boardOf o) ≤ room b → boardOf o ≡ b → t′ .entries ≡ 0
+        silent (done b″ r k) e l q = omega (arith, ap (λ x. x .entries) e, ap room q)
+        silent (refused l′ b″ r k) e l q = omega (arith, ap (λ x. x .entries) e, ap room q)
+
+  -- a narrower start that settles ends within the wider's end
+  pub narrower : {a₀ : List ℕ} {t′ : Reply} {b′ : List ℕ} → Answered w h Full c a₀ t′ b′ → t′ .number ≡ 0 → Within a₀ b₀ → Within b′ b
+  narrower a′ m u = widest-mono w h kind u (full-widest a′ m) (full-widest a n)
+
+-- no finished picture is lost: where one lies within the start, the run is done and the picture lies within its end
+module _ {w h : ℕ} {c : Card} {b₀ : List ℕ} {t : Reply} {b : List ℕ} (a : Answered w h Full c b₀ t b) (p : Passed t) {m : List ℕ}
+    (q : Picture (Placed w h c) w h m) (u : Within m b₀) where
+  pub picture-done : t .number ≡ 0
+  picture-done =
+      ⊎-elim (λ n. n) (λ n. absurd (full-refused a p .0 n .none m (picture-settled w h (proper (ending a p .was)) q) u)) p
+
+  pub picture-kept : Within m b
+  picture-kept = widest-picture w h (proper (ending a p .was)) (full-widest a picture-done) q u
+
+-- a run from a point, where all other lines were stable, is refused alike and else ends on the same board
+module _ {w h : ℕ} {c : Card} {b₀ : List ℕ} {t t′ : Reply} {b b′ : List ℕ} {x : ColumnIndex} {y : RowIndex} (a : Answered w h Full c b₀ t b) (p : Passed t)
+    (a′ : Answered w h (Point x y) c b₀ t′ b′) (p′ : Passed t′) (f : OthersStable w h c x y b₀) where
+  pub point-alike : t .number ≡ t′ .number
+  point-alike =
+      ⊎-elim
+      (λ n. n ∙ sym (⊎-elim (λ m. m) (λ m. let z = full-widest a n in absurd (ends-unsettled a′ f m .none b (z .settled) (z .kept .within))) p′))
+      (λ n. n ∙ sym (refused-exactly a′ f p′ .1 (full-refused a p .0 n)))
+      p
+
+  pub point-same : t .number ≡ 0 → b ≡ b′
+  point-same n = widest-one w h (proper (ending a p .was)) (full-widest a n) (ends-widest a′ f (sym point-alike ∙ n))
+
+-- ---- the bounds of the counts
+
+module _ {w h : ℕ} {s : Start} {c : Card} {b₀ : List ℕ} {t : Reply} {b : List ℕ} (a : Answered w h s c b₀ t b) (p : Passed t) where
+  -- at most as many entries as the room number
+  pub entries-bound : t .entries ≤ room b₀
+  entries-bound = go (endOf w h s c b₀) (ending a p .tells) (spent (ending a p .was))
+    where
+      go : (o : Outcome) → t ≡ replyTo o → length (reportOf o) + room (boardOf o) ≤ room b₀ → t .entries ≤ room b₀
+      go (done b r k) e l = omega (arith, ap (λ x. x .entries) e)
+      go (refused q b r k) e l = omega (arith, ap (λ x. x .entries) e)
+
+  -- at most as many lines as the stack had at the start and the room number: width + height, or 2, and the room
+  pub lines-bound : t .lines ≤ startCount w h s + room b₀
+  lines-bound = go (endOf w h s c b₀) (ending a p .tells) (solved s)
+    where
+      solved : (s : Start) → solvedOf (endOf w h s c b₀) ≤ startCount w h s + room b₀
+      solved Full = full-solved w h (solveStraight w h (clueOf c)) b₀
+      solved (Point x y) = point-solved w h (solveStraight w h (clueOf c)) (x .0) (y .0) b₀
+
+      go : (o : Outcome) → t ≡ replyTo o → solvedOf o ≤ startCount w h s + room b₀ → t .lines ≤ startCount w h s + room b₀
+      go (done b r k) e l = omega (arith, ap (λ x. x .lines) e)
+      go (refused q b r k) e l = omega (arith, ap (λ x. x .lines) e)
