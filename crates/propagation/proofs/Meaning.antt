@@ -162,7 +162,8 @@ module _ {w h : ℕ} {c : Card} {b₀ : List ℕ} {t : Reply} {b : List ℕ} (a 
   module _ {t′ : Reply} {b′ : List ℕ} (a′ : Answered w h Full c b t′ b′) (p : Passed t′) where
     pub again-done : t′ .number ≡ 0
     again-done =
-        ⊎-elim (λ m. m) (λ m. let z = full-widest a n in absurd (full-refused a′ p .0 m .none b (z .settled) (widest-again w h kind z .kept .within))) p
+        ⊎-elim (λ m. m) (λ m. let z = full-widest a n in absurd
+        (full-refused a′ p .0 m .none b (z .settled) (widest-again w h kind z .kept .within))) p
 
     pub again-same : b′ ≡ b
     again-same = widest-one w h kind (full-widest a′ again-done) (widest-again w h kind (full-widest a n))
@@ -195,7 +196,8 @@ module _ {w h : ℕ} {c : Card} {b₀ : List ℕ} {t : Reply} {b : List ℕ} (a 
   picture-kept = widest-picture w h (proper (ending a p .was)) (full-widest a picture-done) q u
 
 -- a run from a point, where all other lines were stable, is refused alike and else ends on the same board
-module _ {w h : ℕ} {c : Card} {b₀ : List ℕ} {t t′ : Reply} {b b′ : List ℕ} {x : ColumnIndex} {y : RowIndex} (a : Answered w h Full c b₀ t b) (p : Passed t)
+module _ {w h : ℕ} {c : Card} {b₀ : List ℕ} {t t′ : Reply} {b b′ : List ℕ} {x : ColumnIndex} {y : RowIndex} (a : Answered w h Full c b₀ t b)
+    (p : Passed t)
     (a′ : Answered w h (Point x y) c b₀ t′ b′) (p′ : Passed t′) (f : OthersStable w h c x y b₀) where
   pub point-alike : t .number ≡ t′ .number
   point-alike =

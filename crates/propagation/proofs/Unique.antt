@@ -74,7 +74,8 @@ module _ (w h : ℕ) (s : Start) (c : Card) (grid report memo stack : List ℕ) 
 
 -- ---- two calls that differ only in what memo and stack hold answer alike, and leave the same grid and report
 
-module _ (w h : ℕ) (s : Start) (c : Card) (grid report memo stack memo₂ stack₂ : List ℕ) (e : length memo ≡ length memo₂) (f : length stack ≡ length stack₂)
+module _ (w h : ℕ) (s : Start) (c : Card) (grid report memo stack memo₂ stack₂ : List ℕ) (e : length memo ≡ length memo₂)
+    (f : length stack ≡ length stack₂)
     {g x m k g₂ x₂ m₂ k₂ : List ℕ} (r r₂ : RunAnswer) where
   pub memory-free : Runs w h s c grid report memo stack (replyOf r) g x m k → Runs w h s c grid report memo₂ stack₂ (replyOf r₂) g₂ x₂ m₂ k₂
       → (r ≡ r₂) × (g ≡ g₂) × (x ≡ x₂)

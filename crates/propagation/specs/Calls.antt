@@ -88,7 +88,8 @@ endOf w h (Point x y) c b = pointRun w h (solveStraight w h (clueOf c)) (x .0) (
 
 -- what all four calls promise, by their rules, the run's end and the board it leaves: the reply, and the grid and the report after the
 -- call. After 0 or 8 the memo and the stack are left open
-pub record Ran (rules : List Rule) (end : Outcome) (board grid report memo stack : List ℕ) (t : Reply) (grid′ report′ memo′ stack′ : List ℕ) : Type 0 where
+pub record Ran (rules : List Rule) (end : Outcome) (board grid report memo stack : List ℕ) (t : Reply)
+    (grid′ report′ memo′ stack′ : List ℕ) : Type 0 where
   pub tells : t ≡ reply (verdict rules) end
   pub leaves : grid′ ≡ gridLeft (verdict rules) board grid
   pub reports : report′ ≡ left (verdict rules) (reportOf end) report
@@ -100,7 +101,8 @@ pub record Ran (rules : List Rule) (end : Outcome) (board grid report memo stack
 -- coloured cells
 abbrev pub Runs : ℕ → ℕ → Start → Card → List ℕ → List ℕ → List ℕ → List ℕ → Reply → List ℕ → List ℕ → List ℕ → List ℕ → Type 0
 Runs w h s c grid report memo stack =
-    Ran (runRules w h s c grid (length report) (length memo) (length stack)) (endOf w h s c grid) (boardOf (endOf w h s c grid)) grid report memo stack
+    Ran (runRules w h s c grid (length report) (length memo) (length stack)) (endOf w h s c grid)
+    (boardOf (endOf w h s c grid)) grid report memo stack
 
 -- binary cells: the run is that of their sets, read back
 abbrev pub RunsBinary : ℕ → ℕ → Start → Card → List ℕ → List ℕ → List ℕ → List ℕ → Reply → List ℕ → List ℕ → List ℕ → List ℕ → Type 0

@@ -48,7 +48,8 @@ pub record Tried (w h : ℕ) (l : LinePosition) (b sizes colours memo column ans
   pub roomy : Roomy (len w h l) l stack count
 
 -- before a line is taken up: it has left the stack, on which it and the other lines stand once
-pub record Ready (w h : ℕ) (c : Card) (l : LinePosition) (b report : List ℕ) (entries : ℕ) (memo column answer stack : List ℕ) (count : ℕ) : Type 0 where
+pub record Ready (w h : ℕ) (c : Card) (l : LinePosition) (b report : List ℕ) (entries : ℕ) (memo column answer stack : List ℕ)
+    (count : ℕ) : Type 0 where
   pub grid : Grid w h b
   pub right : RightCard w h c
   pub lines : Lines w h (l ∷ stackOf stack count)
@@ -65,14 +66,16 @@ pub record Refuses (w h : ℕ) (c : Card) (l : LinePosition) (b report b′ repo
   pub reports : report′ ≡ report
 
 -- the line was solved: it is stored, its changes are reported and their crossing lines pushed
-pub record Moves (w h : ℕ) (c : Card) (l : LinePosition) (b report : List ℕ) (entries : ℕ) (stack : List ℕ) (count : ℕ) (b′ report′ : List ℕ) (entries′ : ℕ) (stack′ : List ℕ) (count′ : ℕ) : Type 0 where
+pub record Moves (w h : ℕ) (c : Card) (l : LinePosition) (b report : List ℕ) (entries : ℕ) (stack : List ℕ) (count : ℕ) (b′ report′ : List ℕ)
+    (entries′ : ℕ) (stack′ : List ℕ) (count′ : ℕ) : Type 0 where
   pub cells : List ℕ
   pub solved : solveStraight w h (clueOf c) l (lineOf w h b l) ≡ some cells
   pub board : b′ ≡ store w l cells b
   pub stacks : stackOf stack′ count′ ≡ pushAll l (changes w h l cells b) (stackOf stack count)
   pub reports : Put report entries (news w h l cells b) entries′ report′
 
-pub record Updated (w h : ℕ) (c : Card) (l : LinePosition) (b report : List ℕ) (entries : ℕ) (stack : List ℕ) (count : ℕ) (s : Step) (b′ report′ stack′ : List ℕ) : Type 0 where
+pub record Updated (w h : ℕ) (c : Card) (l : LinePosition) (b report : List ℕ) (entries : ℕ) (stack : List ℕ) (count : ℕ) (s : Step)
+    (b′ report′ stack′ : List ℕ) : Type 0 where
   pub no : s .solved ≡ false → Refuses w h c l b report b′ report′
   pub yes : s .solved ≡ true → Moves w h c l b report entries stack count b′ report′ (s .entries) stack′ (s .stacked)
 

@@ -13,9 +13,13 @@ returns c = simp (ne-eqb _ _ (c .if1 .taken))
 sum-to-requires : tie.Need-sum-to-requires
 sum-to-requires c κs = search needs
 
-total : (c : tie.After-sum-to) → c .sum-to .result ≡ sum (c .before .before .before .args .counts .now)
+abbrev from-after-sum-to : tie.After-sum-to → tie.Start
+from-after-sum-to c = c .before .before .before
+
+total : (c : tie.After-sum-to) → c .sum-to .result ≡ sum (from-after-sum-to c .args .counts .now)
 total c =
-    let args = c .before .before .before .args in
+    let start = c .before .before .before in
+    let args = start .args in
     c .sum-to .ensures ∙ sum-all (args .counts .now) (args .lines) (c .before .if1 .left)
 
 returns-2 : tie.Need-returns-2

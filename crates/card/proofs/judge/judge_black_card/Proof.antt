@@ -34,18 +34,25 @@ card c = let a = c .args in blackCard (a .row-counts .now) (a .row-sizes .now) (
 
 returns : tie.Need-returns
 returns c =
-    let args = c .before .before .before .before .before .before .before .before .args in
+    let start = c .before .before .before .before .before .before .before .before in
+    let args = start .args in
     let judge-counts = c .before .before .before .judge-counts in
-    sym (card-bad (args .width) (args .height) (args .cells) (card (c .before .before .before .before .before .before .before .before)) (args .memo) (args .stack) (black-counts (args .width) (args .height) (args .cells) (args .row-counts .now) (args .row-sizes .now) (args .column-counts .now) (args .column-sizes .now) (args .memo) (args .stack) ∙ sym (judge-counts .ensures) ∙ c .before .v .given .1))
+    sym (card-bad (args .width) (args .height) (args .cells) (card start) (args .memo) (args .stack)
+    (black-counts (args .width) (args .height) (args .cells) (args .row-counts .now) (args .row-sizes .now) (args .column-counts .now)
+    (args .column-sizes .now) (args .memo) (args .stack) ∙ sym (judge-counts .ensures) ∙ c .before .v .given .1))
 
 returns-2 : tie.Need-returns-2
 returns-2 c =
-    let args = c .before .before .before .before .before .before .before .before .before .before .args in
+    let start = c .before .before .before .before .before .before .before .before .before .before in
+    let args = start .args in
     let judge-counts = c .before .before .before .before .before .judge-counts in
     let enum-told = c .before .before .before .enum-told in
     c .judge-legal .ensures
-    ∙ ap₂ (λ a b. verdict (legalRules a b)) (c .before .before .any-empty .ensures ∙ sym (ap illegal (blacks-blocks (args .row-sizes .now)))) (c .before .any-empty2 .ensures ∙ sym (ap illegal (blacks-blocks (args .column-sizes .now))))
-    ∙ sym (card-fine (args .width) (args .height) (args .cells) (card (c .before .before .before .before .before .before .before .before .before .before)) (args .memo) (args .stack) (black-counts (args .width) (args .height) (args .cells) (args .row-counts .now) (args .row-sizes .now) (args .column-counts .now) (args .column-sizes .now) (args .memo) (args .stack) ∙ sym (judge-counts .ensures) ∙ enum-told .given .1))
+    ∙ ap₂ (λ a b. verdict (legalRules a b)) (c .before .before .any-empty .ensures ∙ sym (ap illegal (blacks-blocks (args .row-sizes .now))))
+    (c .before .any-empty2 .ensures ∙ sym (ap illegal (blacks-blocks (args .column-sizes .now))))
+    ∙ sym (card-fine (args .width) (args .height) (args .cells) (card start) (args .memo) (args .stack)
+    (black-counts (args .width) (args .height) (args .cells) (args .row-counts .now) (args .row-sizes .now) (args .column-counts .now)
+    (args .column-sizes .now) (args .memo) (args .stack) ∙ sym (judge-counts .ensures) ∙ enum-told .given .1))
 
 pub judge-black-card-spec : {M : Type 1} → statement M
 judge-black-card-spec =

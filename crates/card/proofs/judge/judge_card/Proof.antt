@@ -20,35 +20,53 @@ enum-told : tie.Need-enum-told
 enum-told c = search needs
 
 abbrev card : (c : tie.Start) → Card
-card c = let a = c .args in cardOf (a .row-counts .now) (a .row-sizes .now) (a .row-colours .now) (a .column-counts .now) (a .column-sizes .now) (a .column-colours .now)
+card c = let a = c .args in cardOf (a .row-counts .now) (a .row-sizes .now) (a .row-colours .now) (a .column-counts .now) (a .column-sizes .now)
+    (a .column-colours .now)
 
-fine : (c : tie.After-enum-told) → verdict (counting (c .before .before .before .before .before .before .before .before .before .args .width) (c .before .before .before .before .before .before .before .before .before .args .height) (c .before .before .before .before .before .before .before .before .before .args .cells) (c .before .before .before .before .before .before .before .before .before .args .row-counts .now) (length (c .before .before .before .before .before .before .before .before .before .args .row-sizes .now)) (length (c .before .before .before .before .before .before .before .before .before .args .row-colours .now)) (c .before .before .before .before .before .before .before .before .before .args .column-counts .now) (length (c .before .before .before .before .before .before .before .before .before .args .column-sizes .now)) (length (c .before .before .before .before .before .before .before .before .before .args .column-colours .now)) (c .before .before .before .before .before .before .before .before .before .args .memo) (c .before .before .before .before .before .before .before .before .before .args .stack)) ≡ Fine
+abbrev from-after-enum-told : tie.After-enum-told → tie.Start
+from-after-enum-told c = c .before .before .before .before .before .before .before .before .before
+
+fine : (c : tie.After-enum-told) → verdict
+    (counting (from-after-enum-told c .args .width) (from-after-enum-told c .args .height) (from-after-enum-told c .args .cells)
+    (from-after-enum-told c .args .row-counts .now) (length (from-after-enum-told c .args .row-sizes .now))
+    (length (from-after-enum-told c .args .row-colours .now)) (from-after-enum-told c .args .column-counts .now)
+    (length (from-after-enum-told c .args .column-sizes .now)) (length (from-after-enum-told c .args .column-colours .now))
+    (from-after-enum-told c .args .memo) (from-after-enum-told c .args .stack)) ≡ Fine
 fine c = sym (c .before .before .judge-counts .ensures) ∙ c .enum-told .given .1
 
 any-illegal-requires : tie.Need-any-illegal-requires
 any-illegal-requires c κs =
-    let args = c .before .before .before .before .before .before .before .before .before .args in
-    sym (counts-known (args .width) (args .height) (args .cells) (args .row-counts .now) (length (args .row-sizes .now)) (length (args .row-colours .now)) (args .column-counts .now) (length (args .column-sizes .now)) (length (args .column-colours .now)) (args .memo) (args .stack) (fine c) .row-lists .pairs)
+    let start = c .before .before .before .before .before .before .before .before .before in
+    let args = start .args in
+    sym (counts-known (args .width) (args .height) (args .cells) (args .row-counts .now) (length (args .row-sizes .now))
+    (length (args .row-colours .now)) (args .column-counts .now) (length (args .column-sizes .now)) (length (args .column-colours .now))
+    (args .memo) (args .stack) (fine c) .row-lists .pairs)
 
 any-illegal-requires-2 : tie.Need-any-illegal-requires-2
 any-illegal-requires-2 c κs =
-    let args = c .before .before .before .before .before .before .before .before .before .before .args in
-    sym (counts-known (args .width) (args .height) (args .cells) (args .row-counts .now) (length (args .row-sizes .now)) (length (args .row-colours .now)) (args .column-counts .now) (length (args .column-sizes .now)) (length (args .column-colours .now)) (args .memo) (args .stack) (fine (c .before)) .column-lists .pairs)
+    let start = c .before .before .before .before .before .before .before .before .before .before in
+    let args = start .args in
+    sym (counts-known (args .width) (args .height) (args .cells) (args .row-counts .now) (length (args .row-sizes .now))
+    (length (args .row-colours .now)) (args .column-counts .now) (length (args .column-sizes .now)) (length (args .column-colours .now))
+    (args .memo) (args .stack) (fine (c .before)) .column-lists .pairs)
 
 judge-legal-requires : tie.Need-judge-legal-requires
 judge-legal-requires c κs = search needs
 
 returns : tie.Need-returns
 returns c =
-    let args = c .before .before .before .before .before .before .before .before .before .before .args in
+    let start = c .before .before .before .before .before .before .before .before .before .before in
+    let args = start .args in
     let judge-counts = c .before .before .before .judge-counts in
-    sym (card-bad (args .width) (args .height) (args .cells) (card (c .before .before .before .before .before .before .before .before .before .before)) (args .memo) (args .stack) (sym (judge-counts .ensures) ∙ c .before .v .given .1))
+    sym (card-bad (args .width) (args .height) (args .cells) (card start) (args .memo) (args .stack)
+    (sym (judge-counts .ensures) ∙ c .before .v .given .1))
 
 returns-2 : tie.Need-returns-2
 returns-2 c =
-    let args = c .before .before .before .before .before .before .before .before .before .before .before .before .args in
+    let start = c .before .before .before .before .before .before .before .before .before .before .before .before in
+    let args = start .args in
     c .judge-legal .ensures ∙ ap₂ (λ a b. verdict (legalRules a b)) (c .before .before .any-illegal .ensures) (c .before .any-illegal2 .ensures)
-    ∙ sym (card-fine (args .width) (args .height) (args .cells) (card (c .before .before .before .before .before .before .before .before .before .before .before .before)) (args .memo) (args .stack) (fine (c .before .before .before)))
+    ∙ sym (card-fine (args .width) (args .height) (args .cells) (card start) (args .memo) (args .stack) (fine (c .before .before .before)))
 
 pub judge-card-spec : {M : Type 1} → statement M
 judge-card-spec =

@@ -14,28 +14,57 @@ returns-2 c =
 
 returns-3 : tie.Need-returns-3
 returns-3 c =
-    let args = c .before .before .before .args in
-    simp (not-false (args .roomy) (c .before .before .if1 .left), not-false (args .rows-fit) (c .before .if2 .left), not-true (args .columns-fit) (c .if3 .taken))
+    let start = c .before .before .before in
+    let args = start .args in
+    simp (
+      not-false (args .roomy) (c .before .before .if1 .left),
+      not-false (args .rows-fit) (c .before .if2 .left),
+      not-true (args .columns-fit)
+          (c .if3 .taken),
+    )
 
 returns-4 : tie.Need-returns-4
 returns-4 c =
-    let args = c .before .before .before .before .args in
+    let start = c .before .before .before .before in
+    let args = start .args in
     let if1 = c .before .before .before .if1 in
-    simp (not-false (args .roomy) (if1 .left), not-false (args .rows-fit) (c .before .before .if2 .left), not-false (args .columns-fit) (c .before .if3 .left), c .if4 .taken)
+    simp (
+      not-false (args .roomy) (if1 .left),
+      not-false (args .rows-fit) (c .before .before .if2 .left),
+      not-false (args .columns-fit)
+          (c .before .if3 .left),
+      c .if4 .taken,
+    )
 
 returns-5 : tie.Need-returns-5
 returns-5 c =
-    let args = c .before .before .before .before .before .args in
+    let start = c .before .before .before .before .before in
+    let args = start .args in
     let if1 = c .before .before .before .before .if1 in
     let if2 = c .before .before .before .if2 in
-    simp (not-false (args .roomy) (if1 .left), not-false (args .rows-fit) (if2 .left), not-false (args .columns-fit) (c .before .before .if3 .left), c .before .if4 .left, c .if5 .taken)
+    simp (
+      not-false (args .roomy) (if1 .left),
+      not-false (args .rows-fit) (if2 .left),
+      not-false (args .columns-fit)
+          (c .before .before .if3 .left),
+      c .before .if4 .left,
+      c .if5 .taken,
+    )
 
 returns-6 : tie.Need-returns-6
 returns-6 c =
-    let args = c .before .before .before .before .before .args in
+    let start = c .before .before .before .before .before in
+    let args = start .args in
     let if1 = c .before .before .before .before .if1 in
     let if2 = c .before .before .before .if2 in
-    simp (not-false (args .roomy) (if1 .left), not-false (args .rows-fit) (if2 .left), not-false (args .columns-fit) (c .before .before .if3 .left), c .before .if4 .left, c .if5 .left)
+    simp (
+      not-false (args .roomy) (if1 .left),
+      not-false (args .rows-fit) (if2 .left),
+      not-false (args .columns-fit)
+          (c .before .before .if3 .left),
+      c .before .if4 .left,
+      c .if5 .left,
+    )
 
 pub judge-tests-spec : {M : Type 1} → statement M
 judge-tests-spec = tie.close (tie.spec returns returns-2 returns-3 returns-4 returns-5 returns-6)

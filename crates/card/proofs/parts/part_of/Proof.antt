@@ -19,26 +19,32 @@ mul-n c = search needs
 shared-slice-read-n : tie.Need-shared-slice-read-n
 shared-slice-read-n c = search needs
 
-within : (c : tie.After-shared-slice-known3) → c .before .sum-to .result + getD (c .before .before .before .before .args .counts .now) (c .before .before .before .before .args .i) 0 ≤ length (c .before .before .before .before .args .list .now)
+abbrev from-after-shared-slice-known3 : tie.After-shared-slice-known3 → tie.Start
+from-after-shared-slice-known3 c = c .before .before .before .before
+
+within : (c : tie.After-shared-slice-known3) → c .before .sum-to .result + getD (from-after-shared-slice-known3 c .args .counts .now)
+    (from-after-shared-slice-known3 c .args .i) 0 ≤ length (from-after-shared-slice-known3 c .args .list .now)
 within c =
-    let args = c .before .before .before .before .args in
-    let pre = c .before .before .before .before .pre in
+    let start = c .before .before .before .before in
+    let args = start .args in
+    let pre = start .pre in
     omega (arith, c .before .sum-to .ensures, sum-part (args .counts .now) (args .i) (pre .0), pre .1 .total)
 
 cast-n : tie.Need-cast-n
 cast-n c =
-    let args = c .before .before .before .before .args in
+    let start = c .before .before .before .before in
+    let args = start .args in
     omega (arith, c .shared-slice-known3 .given (args .i))
 
 add-result : tie.Need-add-result
 add-result c =
-    let good = c .before .before .before .before .good in
-    omega (arith, within c, good)
+    let start = c .before .before .before .before in
+    omega (arith, within c, start .good)
 
 mul-result : tie.Need-mul-result
 mul-result c =
-    let good = c .before .before .before .before .good in
-    omega (arith, within c, good)
+    let start = c .before .before .before .before in
+    omega (arith, within c, start .good)
 
 sub-result : tie.Need-sub-result
 sub-result c = search needs

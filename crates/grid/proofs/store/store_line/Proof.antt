@@ -22,7 +22,8 @@ loop-holds c = store-start _ _ _ _ _ _ _
 
 cell-of-requires : tie.Need-cell-of-requires Inv-loop μ-loop
 cell-of-requires c κs =
-    let pre = c .before .before .before .before .before .pre in
+    let start = c .before .before .before .before .before in
+    let pre = start .pre in
     let p = in-line _ _ _ _ _ _ _ pre (c .before .loop .inv) (c .loop-test .taken) in (pre .grid .wide-most, p .0, p .1)
 
 mul-colours : tie.Need-mul-colours Inv-loop μ-loop
@@ -33,12 +34,14 @@ shared-slice-read-colours c = c .before .before .loop-test .taken
 
 inside : (c : tie.After-cell-of Inv-loop μ-loop) → c .cell-of .result < length (c .before .before .loop .grid)
 inside c =
-    let pre = c .before .before .before .before .before .before .pre in
+    let start = c .before .before .before .before .before .before in
+    let pre = start .pre in
     omega (arith, c .cell-of .ensures, cell-in _ _ _ _ _ _ _ pre (c .before .before .loop .inv) (c .before .loop-test .taken))
 
 small : (c : tie.After-cell-of Inv-loop μ-loop) → c .cell-of .result < 4096
 small c =
-    let pre = c .before .before .before .before .before .before .pre in
+    let start = c .before .before .before .before .before .before in
+    let pre = start .pre in
     omega (arith, c .cell-of .ensures, cell-small _ _ _ _ _ _ _ pre (c .before .before .loop .inv) (c .before .loop-test .taken))
 
 mul-if1 : tie.Need-mul-if1 Inv-loop μ-loop
@@ -56,9 +59,11 @@ slice-write-grid c = inside (c .before .before .before)
 cast-report : tie.Need-cast-report Inv-loop μ-loop
 cast-report c = omega (arith, small (c .before .before .before))
 
-free : (c : tie.Then1 Inv-loop μ-loop) → c .before .before .before .before .before .loop .entries < length (c .before .before .before .before .before .loop .report)
+free : (c : tie.Then1 Inv-loop μ-loop) → c .before .before .before .before .before .loop .entries < length
+    (c .before .before .before .before .before .loop .report)
 free c =
-    let pre = c .before .before .before .before .before .before .before .before .before .pre in
+    let start = c .before .before .before .before .before .before .before .before .before in
+    let pre = start .pre in
     let loop = c .before .before .before .before .before .loop in
     let loop-test = c .before .before .before .before .loop-test in
     let cell-of = c .before .before .before .cell-of in
@@ -66,18 +71,18 @@ free c =
 
 mul-report : tie.Need-mul-report Inv-loop μ-loop
 mul-report c =
+    let start = c .before .before .before .before .before .before .before .before .before in
     let loop = c .before .before .before .before .before .loop in
-    let good = c .before .before .before .before .before .before .before .before .before .good in
-    omega (arith, free c, loop .inv .reports .long, good)
+    omega (arith, free c, loop .inv .reports .long, start .good)
 
 slice-write-report : tie.Need-slice-write-report Inv-loop μ-loop
 slice-write-report c = free c
 
 add-entries : tie.Need-add-entries Inv-loop μ-loop
 add-entries c =
+    let start = c .before .before .before .before .before .before .before .before .before in
     let loop = c .before .before .before .before .before .loop in
-    let good = c .before .before .before .before .before .before .before .before .before .good in
-    omega (arith, free c, loop .inv .reports .long, good)
+    omega (arith, free c, loop .inv .reports .long, start .good)
 
 add-j : tie.Need-add-j Inv-loop μ-loop
 add-j c = omega arith
@@ -87,9 +92,10 @@ loop-less c = omega arith
 
 loop-again : tie.Need-loop-again Inv-loop μ-loop
 loop-again c =
+    let start = c .before .before .before .before .before .before .before .before .before in
+    let pre = start .pre in
     let loop-test = c .before .before .before .before .loop-test in
     let cell-of = c .before .before .before .cell-of in
-    let pre = c .before .before .before .before .before .before .before .before .before .pre in
     let loop = c .before .before .before .before .before .loop in
     let t = loop-test .taken in
     let e = cell-of .ensures in
@@ -106,7 +112,8 @@ same-length-2 c = c .before .loop .inv .reports .long
 
 returns : tie.Need-returns Inv-loop μ-loop
 returns c =
-    let pre = c .before .before .before .before .before .pre in
+    let start = c .before .before .before .before .before in
+    let pre = start .pre in
     store-end _ _ _ _ _ _ _ pre (c .before .loop .inv) (c .loop-test .left)
 
 pub store-line-spec : {M : Type 1} → statement M

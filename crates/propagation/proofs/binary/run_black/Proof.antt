@@ -11,17 +11,21 @@ to-sets-requires c κs = search needs
 
 slice-aggregate-run-judged : tie.Need-slice-aggregate-run-judged
 slice-aggregate-run-judged c =
-    let pre = c .before .before .before .before .before .before .before .before .before .before .before .before .before .before .before .pre in
+    let start = c .before .before .before .before .before .before .before .before .before .before .before .before .before .before .before in
+    let pre = start .pre in
     sym (length-take-le _ _ (rows-few pre))
 
 slice-aggregate-run-judged-2 : tie.Need-slice-aggregate-run-judged-2
 slice-aggregate-run-judged-2 c =
-    let pre = c .before .before .before .before .before .before .before .before .before .before .before .before .before .before .before .before .pre in
+    let start = c .before .before .before .before .before .before .before .before .before .before .before .before .before .before .before .before in
+    let pre = start .pre in
     sym (length-take-le _ _ (columns-few pre))
 
 run-judged-requires : tie.Need-run-judged-requires
 run-judged-requires c κs =
-    let pre = c .before .before .before .before .before .before .before .before .before .before .before .before .before .before .before .before .before .before .before .pre in
+    let start = c .before .before .before .before .before .before .before .before .before .before .before .before .before .before .before .before
+    .before .before .before in
+    let pre = start .pre in
     let to-sets = c .before .before .before .before .before .before .before .before .to-sets in
     black-judged pre (to-sets .ensures)
 
@@ -42,8 +46,11 @@ same-length-4 c = search needs
 
 returns : tie.Need-returns
 returns c =
-    let pre = c .before .before .before .before .before .before .before .before .before .before .before .before .before .before .before .before .before .before .before .before .before .before .before .before .before .before .before .before .before .before .before .before .pre in
-    let to-sets = c .before .before .before .before .before .before .before .before .before .before .before .before .before .before .before .before .before .before .before .before .before .to-sets in
+    let start = c .before .before .before .before .before .before .before .before .before .before .before .before .before .before .before .before
+    .before .before .before .before .before .before .before .before .before .before .before .before .before .before .before .before in
+    let pre = start .pre in
+    let to-sets = c .before .before .before .before .before .before .before .before .before .before .before .before .before .before .before .before
+    .before .before .before .before .before .to-sets in
     let run-judged = c .before .before .before .before .before .before .before .before .before .before .before .before .run-judged in
     black-ended pre (to-sets .ensures) (run-judged .ensures) (c .before .before .to-cells .ensures)
 

@@ -28,14 +28,26 @@ slice-aggregate-run-black c = search needs
 abbrev card : (c : tie.Start) → Card
 card c = let a = c .args in blackCard (a .row-counts .now) (a .row-sizes .now) (a .column-counts .now) (a .column-sizes .now)
 
-fine : (c : tie.After-enum-told) → verdict (binaryRules (c .before .before .before .before .before .before .before .before .before .before .before .before .args .width) (c .before .before .before .before .before .before .before .before .before .before .before .before .args .height) (c .before .before .before .before .before .before .before .before .before .before .before .before .args .start) (card (c .before .before .before .before .before .before .before .before .before .before .before .before)) (c .before .before .before .before .before .before .before .before .before .before .before .before .args .grid .now) (length (c .before .before .before .before .before .before .before .before .before .before .before .before .args .report .now)) (length (c .before .before .before .before .before .before .before .before .before .before .before .before .args .memo .now)) (length (c .before .before .before .before .before .before .before .before .before .before .before .before .args .stack .now))) ≡ Fine
+abbrev from-after-enum-told : tie.After-enum-told → tie.Start
+from-after-enum-told c = c .before .before .before .before .before .before .before .before .before .before .before .before
+
+fine : (c : tie.After-enum-told) → verdict
+    (binaryRules (from-after-enum-told c .args .width) (from-after-enum-told c .args .height) (from-after-enum-told c .args .start)
+    (card (from-after-enum-told c)) (from-after-enum-told c .args .grid .now) (length (from-after-enum-told c .args .report .now))
+    (length (from-after-enum-told c .args .memo .now)) (length (from-after-enum-told c .args .stack .now))) ≡ Fine
 fine c = sym (c .before .before .judge-binary .ensures) ∙ c .enum-told .given .1
 
 run-black-requires : tie.Need-run-black-requires
 run-black-requires c κs =
-    let args = c .before .before .before .before .before .before .before .before .before .before .before .before .before .before .before .before .before .before .args in
+    let start = c .before .before .before .before .before .before .before .before .before .before .before .before .before .before .before .before
+    .before .before in
+    let args = start .args in
     let make-black = c .before .before .before .before .before .make-black in
-    record { judged = judged-binary (args .width) (args .height) (args .start) (card (c .before .before .before .before .before .before .before .before .before .before .before .before .before .before .before .before .before .before)) (args .grid .now) (args .report .now) (args .memo .now) (args .stack .now) (fine (c .before .before .before .before .before .before)); black = make-black .ensures }
+    record {
+      judged = judged-binary (args .width) (args .height) (args .start) (card start) (args .grid .now) (args .report .now) (args .memo .now)
+          (args .stack .now) (fine (c .before .before .before .before .before .before));
+      black = make-black .ensures;
+    }
 
 same-length : tie.Need-same-length
 same-length c = search needs
@@ -59,10 +71,15 @@ same-length-5 c = search needs
 
 returns-2 : tie.Need-returns-2
 returns-2 c =
+    let start = c .before .before .before .before .before .before .before .before .before .before .before .before .before .before .before .before
+    .before .before .before .before .before .before .before .before .before .before .before in
+    let args = start .args in
     let run-black = c .before .before .before .before .before .before .before .before .run-black in
-    let args = c .before .before .before .before .before .before .before .before .before .before .before .before .before .before .before .before .before .before .before .before .before .before .before .before .before .before .before .args in
-    ran-ended (fine (c .before .before .before .before .before .before .before .before .before .before .before .before .before .before .before)) (run-black .ensures .tells) (run-black .ensures .board) (run-black .ensures .reports)
-    (told-fits (judged-binary (args .width) (args .height) (args .start) (card (c .before .before .before .before .before .before .before .before .before .before .before .before .before .before .before .before .before .before .before .before .before .before .before .before .before .before .before)) (args .grid .now) (args .report .now) (args .memo .now) (args .stack .now) (fine (c .before .before .before .before .before .before .before .before .before .before .before .before .before .before .before))))
+    ran-ended (fine (c .before .before .before .before .before .before .before .before .before .before .before .before .before .before .before))
+    (run-black .ensures .tells) (run-black .ensures .board) (run-black .ensures .reports)
+    (told-fits (judged-binary (args .width) (args .height) (args .start) (card start) (args .grid .now) (args .report .now) (args .memo .now)
+    (args .stack .now) (fine (c .before .before .before .before .before .before .before .before .before .before .before .before .before .before
+    .before))))
     (run-black .kept .1 .1 .1 .1 .1 .1 .1 .1 .1 .1 .0)
     (run-black .kept .1 .1 .1 .1 .1 .1 .1 .1 .1 .1 .1 .0)
 

@@ -22,30 +22,41 @@ enum-told : tie.Need-enum-told
 enum-told c = search needs
 
 abbrev card : (c : tie.Start) → Card
-card c = let a = c .args in cardOf (a .row-counts .now) (a .row-sizes .now) (a .row-colours .now) (a .column-counts .now) (a .column-sizes .now) (a .column-colours .now)
+card c = let a = c .args in cardOf (a .row-counts .now) (a .row-sizes .now) (a .row-colours .now) (a .column-counts .now) (a .column-sizes .now)
+    (a .column-colours .now)
 
-fine : (c : tie.After-enum-told) → verdict (cardRules (c .before .before .before .before .before .before .before .before .before .before .args .width) (c .before .before .before .before .before .before .before .before .before .before .args .height) (length (c .before .before .before .before .before .before .before .before .before .before .args .grid .now)) (card (c .before .before .before .before .before .before .before .before .before .before)) (c .before .before .before .before .before .before .before .before .before .before .args .memo) (c .before .before .before .before .before .before .before .before .before .before .args .stack)) ≡ Fine
+abbrev from-after-enum-told : tie.After-enum-told → tie.Start
+from-after-enum-told c = c .before .before .before .before .before .before .before .before .before .before
+
+fine : (c : tie.After-enum-told) → verdict
+    (cardRules (from-after-enum-told c .args .width) (from-after-enum-told c .args .height) (length (from-after-enum-told c .args .grid .now))
+    (card (from-after-enum-told c)) (from-after-enum-told c .args .memo) (from-after-enum-told c .args .stack)) ≡ Fine
 fine c = sym (c .before .before .judge-card .ensures) ∙ c .enum-told .given .1
 
 count-room-requires : tie.Need-count-room-requires
 count-room-requires c κs =
-    let args = c .before .before .before .before .before .before .before .before .before .before .args in
-    cells-few (args .width) (args .height) (args .start) (card (c .before .before .before .before .before .before .before .before .before .before)) (args .grid .now) (args .report) (args .memo) (args .stack) (fine c)
+    let start = c .before .before .before .before .before .before .before .before .before .before in
+    let args = start .args in
+    cells-few (args .width) (args .height) (args .start) (card start) (args .grid .now) (args .report) (args .memo) (args .stack) (fine c)
 
 judge-end-requires : tie.Need-judge-end-requires
 judge-end-requires c κs = search needs
 
 returns : tie.Need-returns
 returns c =
-    let args = c .before .before .before .before .before .before .before .before .before .before .before .args in
+    let start = c .before .before .before .before .before .before .before .before .before .before .before in
+    let args = start .args in
     let judge-card = c .before .before .before .judge-card in
-    sym (run-bad (args .width) (args .height) (args .start) (card (c .before .before .before .before .before .before .before .before .before .before .before)) (args .grid .now) (args .report) (args .memo) (args .stack) (sym (judge-card .ensures) ∙ c .before .v .given .1))
+    sym (run-bad (args .width) (args .height) (args .start) (card start) (args .grid .now) (args .report) (args .memo) (args .stack)
+    (sym (judge-card .ensures) ∙ c .before .v .given .1))
 
 returns-2 : tie.Need-returns-2
 returns-2 c =
-    let args = c .before .before .before .before .before .before .before .before .before .before .before .before .args in
+    let start = c .before .before .before .before .before .before .before .before .before .before .before .before in
+    let args = start .args in
     c .judge-end .ensures ∙ ap (λ n. verdict (endRules (args .width) (args .height) (args .start) (args .report) n)) (c .before .count-room .ensures)
-    ∙ sym (run-fine (args .width) (args .height) (args .start) (card (c .before .before .before .before .before .before .before .before .before .before .before .before)) (args .grid .now) (args .report) (args .memo) (args .stack) (fine (c .before .before)))
+    ∙ sym (run-fine (args .width) (args .height) (args .start) (card start) (args .grid .now) (args .report) (args .memo) (args .stack)
+    (fine (c .before .before)))
 
 pub judge-spec : {M : Type 1} → statement M
 judge-spec =

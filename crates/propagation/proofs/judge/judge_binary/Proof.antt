@@ -26,34 +26,49 @@ any-above-requires c κs = search needs
 abbrev card : (c : tie.Start) → Card
 card c = let a = c .args in blackCard (a .row-counts .now) (a .row-sizes .now) (a .column-counts .now) (a .column-sizes .now)
 
-fine : (c : tie.After-enum-told) → verdict (cardRules (c .before .before .before .before .before .before .before .before .args .width) (c .before .before .before .before .before .before .before .before .args .height) (length (c .before .before .before .before .before .before .before .before .args .grid .now)) (card (c .before .before .before .before .before .before .before .before)) (c .before .before .before .before .before .before .before .before .args .memo) (c .before .before .before .before .before .before .before .before .args .stack)) ≡ Fine
+abbrev from-after-enum-told : tie.After-enum-told → tie.Start
+from-after-enum-told c = c .before .before .before .before .before .before .before .before
+
+fine : (c : tie.After-enum-told) → verdict
+    (cardRules (from-after-enum-told c .args .width) (from-after-enum-told c .args .height) (length (from-after-enum-told c .args .grid .now))
+    (card (from-after-enum-told c)) (from-after-enum-told c .args .memo) (from-after-enum-told c .args .stack)) ≡ Fine
 fine c = sym (c .before .before .judge-black-card .ensures) ∙ c .enum-told .given .1
 
 returns : tie.Need-returns
 returns c =
-    let args = c .before .before .before .before .before .before .before .before .before .before .args in
-    sym (binary-cell (args .width) (args .height) (args .start) (card (c .before .before .before .before .before .before .before .before .before .before)) (args .grid .now) (args .report) (args .memo) (args .stack) (fine (c .before .before)) (sym (c .before .any-above .ensures) ∙ c .if1 .taken))
+    let start = c .before .before .before .before .before .before .before .before .before .before in
+    let args = start .args in
+    sym (binary-cell (args .width) (args .height) (args .start) (card start) (args .grid .now) (args .report) (args .memo) (args .stack)
+    (fine (c .before .before)) (sym (c .before .any-above .ensures) ∙ c .if1 .taken))
 
 count-open-requires : tie.Need-count-open-requires
 count-open-requires c κs =
-    let args = c .before .before .before .before .before .before .before .before .before .before .args in
-    (cells-few (args .width) (args .height) (args .start) (card (c .before .before .before .before .before .before .before .before .before .before)) (args .grid .now) (args .report) (args .memo) (args .stack) (fine (c .before .before)), sym (c .before .any-above .ensures) ∙ c .if1 .left)
+    let start = c .before .before .before .before .before .before .before .before .before .before in
+    let args = start .args in (
+      cells-few (args .width) (args .height) (args .start) (card start) (args .grid .now) (args .report) (args .memo) (args .stack)
+          (fine (c .before .before)),
+      sym (c .before .any-above .ensures) ∙ c .if1 .left,
+    )
 
 judge-end-requires : tie.Need-judge-end-requires
 judge-end-requires c κs = search needs
 
 returns-2 : tie.Need-returns-2
 returns-2 c =
-    let args = c .before .before .before .before .before .before .before .before .before .args in
+    let start = c .before .before .before .before .before .before .before .before .before in
+    let args = start .args in
     let judge-black-card = c .before .before .before .judge-black-card in
-    sym (binary-bad (args .width) (args .height) (args .start) (card (c .before .before .before .before .before .before .before .before .before)) (args .grid .now) (args .report) (args .memo) (args .stack) (sym (judge-black-card .ensures) ∙ c .before .v .given .1))
+    sym (binary-bad (args .width) (args .height) (args .start) (card start) (args .grid .now) (args .report) (args .memo) (args .stack)
+    (sym (judge-black-card .ensures) ∙ c .before .v .given .1))
 
 returns-3 : tie.Need-returns-3
 returns-3 c =
-    let args = c .before .before .before .before .before .before .before .before .before .before .before .before .args in
+    let start = c .before .before .before .before .before .before .before .before .before .before .before .before in
+    let args = start .args in
     let any-above = c .before .before .before .any-above in
     c .judge-end .ensures ∙ ap (λ n. verdict (endRules (args .width) (args .height) (args .start) (args .report) n)) (c .before .count-open .ensures)
-    ∙ sym (binary-fine (args .width) (args .height) (args .start) (card (c .before .before .before .before .before .before .before .before .before .before .before .before)) (args .grid .now) (args .report) (args .memo) (args .stack) (fine (c .before .before .before .before)) (sym (any-above .ensures) ∙ c .before .before .if1 .left))
+    ∙ sym (binary-fine (args .width) (args .height) (args .start) (card start) (args .grid .now) (args .report) (args .memo) (args .stack)
+    (fine (c .before .before .before .before)) (sym (any-above .ensures) ∙ c .before .before .if1 .left))
 
 pub judge-binary-spec : {M : Type 1} → statement M
 judge-binary-spec =

@@ -21,15 +21,25 @@ enum-told : tie.Need-enum-told
 enum-told c = search needs
 
 abbrev card : (c : tie.Start) → Card
-card c = let a = c .args in cardOf (a .row-counts .now) (a .row-sizes .now) (a .row-colours .now) (a .column-counts .now) (a .column-sizes .now) (a .column-colours .now)
+card c = let a = c .args in cardOf (a .row-counts .now) (a .row-sizes .now) (a .row-colours .now) (a .column-counts .now) (a .column-sizes .now)
+    (a .column-colours .now)
 
-fine : (c : tie.After-enum-told) → verdict (runRules (c .before .before .before .before .before .before .before .before .before .before .before .before .before .before .args .width) (c .before .before .before .before .before .before .before .before .before .before .before .before .before .before .args .height) (c .before .before .before .before .before .before .before .before .before .before .before .before .before .before .args .start) (card (c .before .before .before .before .before .before .before .before .before .before .before .before .before .before)) (c .before .before .before .before .before .before .before .before .before .before .before .before .before .before .args .grid .now) (length (c .before .before .before .before .before .before .before .before .before .before .before .before .before .before .args .report .now)) (length (c .before .before .before .before .before .before .before .before .before .before .before .before .before .before .args .memo .now)) (length (c .before .before .before .before .before .before .before .before .before .before .before .before .before .before .args .stack .now))) ≡ Fine
+abbrev from-after-enum-told : tie.After-enum-told → tie.Start
+from-after-enum-told c = c .before .before .before .before .before .before .before .before .before .before .before .before .before .before
+
+fine : (c : tie.After-enum-told) → verdict
+    (runRules (from-after-enum-told c .args .width) (from-after-enum-told c .args .height) (from-after-enum-told c .args .start)
+    (card (from-after-enum-told c)) (from-after-enum-told c .args .grid .now) (length (from-after-enum-told c .args .report .now))
+    (length (from-after-enum-told c .args .memo .now)) (length (from-after-enum-told c .args .stack .now))) ≡ Fine
 fine c = sym (c .before .before .judge .ensures) ∙ c .enum-told .given .1
 
 run-judged-requires : tie.Need-run-judged-requires
 run-judged-requires c κs =
-    let args = c .before .before .before .before .before .before .before .before .before .before .before .before .before .before .before .before .before .before .args in
-    judged (args .width) (args .height) (args .start) (card (c .before .before .before .before .before .before .before .before .before .before .before .before .before .before .before .before .before .before)) (args .grid .now) (args .report .now) (args .memo .now) (args .stack .now) (fine (c .before .before .before .before))
+    let start = c .before .before .before .before .before .before .before .before .before .before .before .before .before .before .before .before
+    .before .before in
+    let args = start .args in
+    judged (args .width) (args .height) (args .start) (card start) (args .grid .now) (args .report .now) (args .memo .now) (args .stack .now)
+    (fine (c .before .before .before .before))
 
 same-length : tie.Need-same-length
 same-length c = search needs
@@ -53,10 +63,14 @@ same-length-5 c = search needs
 
 returns-2 : tie.Need-returns-2
 returns-2 c =
+    let start = c .before .before .before .before .before .before .before .before .before .before .before .before .before .before .before .before
+    .before .before .before .before .before .before .before .before .before .before .before in
+    let args = start .args in
     let run-judged = c .before .before .before .before .before .before .before .before .run-judged in
-    let args = c .before .before .before .before .before .before .before .before .before .before .before .before .before .before .before .before .before .before .before .before .before .before .before .before .before .before .before .args in
-    ran-ended (fine (c .before .before .before .before .before .before .before .before .before .before .before .before .before)) (run-judged .ensures .tells) (run-judged .ensures .board) (run-judged .ensures .reports)
-    (told-fits (judged (args .width) (args .height) (args .start) (card (c .before .before .before .before .before .before .before .before .before .before .before .before .before .before .before .before .before .before .before .before .before .before .before .before .before .before .before)) (args .grid .now) (args .report .now) (args .memo .now) (args .stack .now) (fine (c .before .before .before .before .before .before .before .before .before .before .before .before .before))))
+    ran-ended (fine (c .before .before .before .before .before .before .before .before .before .before .before .before .before))
+    (run-judged .ensures .tells) (run-judged .ensures .board) (run-judged .ensures .reports)
+    (told-fits (judged (args .width) (args .height) (args .start) (card start) (args .grid .now) (args .report .now) (args .memo .now)
+    (args .stack .now) (fine (c .before .before .before .before .before .before .before .before .before .before .before .before .before))))
     (run-judged .kept .1 .1 .1 .1 .1 .1 .1 .1 .1 .1 .1 .0)
     (run-judged .kept .1 .1 .1 .1 .1 .1 .1 .1 .1 .1 .1 .1 .0)
 

@@ -14,20 +14,24 @@ use Rattle.propagation.proofs.run.run_jobs.Statement.{statement}
 use Rattle.propagation.proofs.run.run_jobs.Tie as tie
 
 abbrev Inv-loop : tie.InvT-loop
-Inv-loop width height grid₀ row-counts row-sizes row-colours column-counts column-sizes column-colours report₀ memo₀ column₀ answer₀ stack₀ count left₀ entries₀ lines₀ grid report memo column answer stack left entries lines =
-    Going width height (cardOf row-counts row-sizes row-colours column-counts column-sizes column-colours) grid₀ report₀ stack₀ count grid report entries stack left lines
+Inv-loop width height grid₀ row-counts row-sizes row-colours column-counts column-sizes column-colours report₀ memo₀ column₀ answer₀ stack₀ count
+    left₀ entries₀ lines₀ grid report memo column answer stack left entries lines =
+    Going width height (cardOf row-counts row-sizes row-colours column-counts column-sizes column-colours) grid₀ report₀ stack₀ count grid report
+    entries stack left lines
     × (length memo ≡ length memo₀)
     × (length column ≡ length column₀)
     × (length answer ≡ length answer₀)
     × (length stack ≡ length stack₀)
 
 abbrev μ-loop : tie.MeasureT-loop
-μ-loop width height grid₀ row-counts row-sizes row-colours column-counts column-sizes column-colours report₀ memo₀ column₀ answer₀ stack₀ count left₀ entries₀ lines₀ grid report memo column answer stack left entries lines =
+μ-loop width height grid₀ row-counts row-sizes row-colours column-counts column-sizes column-colours report₀ memo₀ column₀ answer₀ stack₀ count left₀
+    entries₀ lines₀ grid report memo column answer stack left entries lines =
     room grid + left
 
 loop-holds : tie.Need-loop-holds Inv-loop μ-loop
 loop-holds c =
-    let pre = c .before .before .before .before .before .before .before .before .before .before .before .before .pre in
+    let start = c .before .before .before .before .before .before .before .before .before .before .before .before in
+    let pre = start .pre in
     (run-starts _ _ _ _ _ _ _ pre, refl, refl, refl, refl)
 
 near : (c : tie.In-loop Inv-loop μ-loop) → c .before .loop .left ≡ suc (c .before .loop .left - 1)
@@ -35,12 +39,15 @@ near c = omega (arith, c .loop-test .taken)
 
 small : (c : tie.In-loop Inv-loop μ-loop) → c .before .loop .left ≤ 128
 small c =
-    let pre = c .before .before .before .before .before .before .before .before .before .before .before .before .before .before .pre in
+    let start = c .before .before .before .before .before .before .before .before .before .before .before .before .before .before in
+    let pre = start .pre in
     few _ _ _ _ _ _ _ (pre .right) (c .before .loop .inv .0)
 
 short : (c : tie.After-len-of Inv-loop μ-loop) → c .len-of .result ≤ length (c .before .before .before .before .loop .answer)
 short c =
-    let pre = c .before .before .before .before .before .before .before .before .before .before .before .before .before .before .before .before .before .pre in
+    let start = c .before .before .before .before .before .before .before .before .before .before .before .before .before .before .before .before
+    .before in
+    let pre = start .pre in
     let loop = c .before .before .before .before .loop in
     omega (arith, c .len-of .ensures, len-most (pre .grid) (c .before .line-of .result), loop .inv .3, pre .works)
 
@@ -52,7 +59,8 @@ mul-line-of c = omega (arith, small c)
 
 slice-read-line-of : tie.Need-slice-read-line-of Inv-loop μ-loop
 slice-read-line-of c =
-    let pre = c .before .before .before .before .before .before .before .before .before .before .before .before .before .before .before .pre in
+    let start = c .before .before .before .before .before .before .before .before .before .before .before .before .before .before .before in
+    let pre = start .pre in
     omega (arith, small (c .before), near (c .before), c .before .before .loop .inv .4, pre .stacked)
 
 line-of-requires : tie.Need-line-of-requires Inv-loop μ-loop
@@ -69,11 +77,14 @@ slice-aggregate-update-line c = sym (length-take-le _ _ (short (c .before .befor
 
 update-line-requires : tie.Need-update-line-requires Inv-loop μ-loop
 update-line-requires c κs =
-    let pre = c .before .before .before .before .before .before .before .before .before .before .before .before .before .before .before .before .before .before .before .before .before .before .before .pre in
+    let start = c .before .before .before .before .before .before .before .before .before .before .before .before .before .before .before .before
+    .before .before .before .before .before .before .before in
+    let pre = start .pre in
     let loop = c .before .before .before .before .before .before .before .before .before .before .loop in
     let line-of = c .before .before .before .before .before .before .before .line-of in
     let len-of = c .before .before .before .before .before .before .len-of in
-    run-ready _ _ _ _ _ _ _ (pre .right) (loop .inv .0) (line-of .result) (loop .left - 1) (near (c .before .before .before .before .before .before .before .before .before)) (line-of .ensures)
+    run-ready _ _ _ _ _ _ _ (pre .right) (loop .inv .0) (line-of .result) (loop .left - 1)
+    (near (c .before .before .before .before .before .before .before .before .before)) (line-of .ensures)
     (length-take-le (len-of .result) (loop .answer) (short (c .before .before .before .before .before .before)) ∙ len-of .ensures)
     (omega (arith, loop .inv .2, pre .copy))
     (omega (arith, loop .inv .1, pre .memos))
@@ -81,91 +92,142 @@ update-line-requires c κs =
 
 same-length : tie.Need-same-length Inv-loop μ-loop
 same-length c =
-    let update-line = c .before .before .before .before .before .before .before .before .before .before .before .before .before .before .update-line in
-    let loop = c .before .before .before .before .before .before .before .before .before .before .before .before .before .before .before .before .before .before .before .before .before .before .before .before .before .loop in
-    let pre = c .before .before .before .before .before .before .before .before .before .before .before .before .before .before .before .before .before .before .before .before .before .before .before .before .before .before .before .before .before .before .before .before .before .before .before .before .before .before .pre in
+    let start = c .before .before .before .before .before .before .before .before .before .before .before .before .before .before .before .before
+    .before .before .before .before .before .before .before .before .before .before .before .before .before .before .before .before .before
+    .before .before .before .before .before in
+    let pre = start .pre in
+    let update-line = c .before .before .before .before .before .before .before .before .before .before .before .before .before .before .update-line
+    in
+    let loop = c .before .before .before .before .before .before .before .before .before .before .before .before .before .before .before .before
+    .before .before .before .before .before .before .before .before .before .loop in
     update-line .kept .1 .1 .0 ∙ loop .inv .0 .grid .size ∙ sym (pre .grid .size)
 
 same-length-2 : tie.Need-same-length-2 Inv-loop μ-loop
 same-length-2 c =
-    let update-line = c .before .before .before .before .before .before .before .before .before .before .before .before .before .before .update-line in
-    let pre = c .before .before .before .before .before .before .before .before .before .before .before .before .before .before .before .before .before .before .before .before .before .before .before .before .before .before .before .before .before .before .before .before .before .before .before .before .before .before .pre in
-    let loop = c .before .before .before .before .before .before .before .before .before .before .before .before .before .before .before .before .before .before .before .before .before .before .before .before .before .loop in
+    let start = c .before .before .before .before .before .before .before .before .before .before .before .before .before .before .before .before
+    .before .before .before .before .before .before .before .before .before .before .before .before .before .before .before .before .before
+    .before .before .before .before .before in
+    let pre = start .pre in
+    let update-line = c .before .before .before .before .before .before .before .before .before .before .before .before .before .before .update-line
+    in
+    let loop = c .before .before .before .before .before .before .before .before .before .before .before .before .before .before .before .before
+    .before .before .before .before .before .before .before .before .before .loop in
     update-line .kept .1 .1 .1 .1 .1 .1 .1 .1 .1 .0 ∙ long _ _ _ _ _ _ _ (pre .right) (loop .inv .0)
 
 same-length-3 : tie.Need-same-length-3 Inv-loop μ-loop
 same-length-3 c =
-    let update-line = c .before .before .before .before .before .before .before .before .before .before .before .before .before .before .update-line in
-    let loop = c .before .before .before .before .before .before .before .before .before .before .before .before .before .before .before .before .before .before .before .before .before .before .before .before .before .loop in
+    let update-line = c .before .before .before .before .before .before .before .before .before .before .before .before .before .before .update-line
+    in
+    let loop = c .before .before .before .before .before .before .before .before .before .before .before .before .before .before .before .before
+    .before .before .before .before .before .before .before .before .before .loop in
     update-line .kept .1 .1 .1 .1 .1 .1 .1 .1 .1 .1 .1 .0 ∙ loop .inv .1
 
 same-length-4 : tie.Need-same-length-4 Inv-loop μ-loop
 same-length-4 c =
-    let update-line = c .before .before .before .before .before .before .before .before .before .before .before .before .before .before .update-line in
-    let loop = c .before .before .before .before .before .before .before .before .before .before .before .before .before .before .before .before .before .before .before .before .before .before .before .before .before .loop in
+    let update-line = c .before .before .before .before .before .before .before .before .before .before .before .before .before .before .update-line
+    in
+    let loop = c .before .before .before .before .before .before .before .before .before .before .before .before .before .before .before .before
+    .before .before .before .before .before .before .before .before .before .loop in
     update-line .kept .1 .1 .1 .1 .1 .1 .1 .1 .1 .1 .1 .1 .0 ∙ loop .inv .2
 
 same-length-5 : tie.Need-same-length-5 Inv-loop μ-loop
 same-length-5 c =
-    let loop = c .before .before .before .before .before .before .before .before .before .before .before .before .before .before .before .before .before .before .before .before .before .before .before .before .before .loop in
-    let update-line = c .before .before .before .before .before .before .before .before .before .before .before .before .before .before .update-line in
-    let len-of = c .before .before .before .before .before .before .before .before .before .before .before .before .before .before .before .before .before .before .before .before .before .len-of in
-    length-front (loop .answer) (update-line .last .1 .1 .1 .1 .1 .1 .1 .1 .1 .1 .1 .1 .1 .0) (len-of .result) (update-line .kept .1 .1 .1 .1 .1 .1 .1 .1 .1 .1 .1 .1 .1 .0) ∙ loop .inv .3
+    let loop = c .before .before .before .before .before .before .before .before .before .before .before .before .before .before .before .before
+    .before .before .before .before .before .before .before .before .before .loop in
+    let update-line = c .before .before .before .before .before .before .before .before .before .before .before .before .before .before .update-line
+    in
+    let len-of = c .before .before .before .before .before .before .before .before .before .before .before .before .before .before .before .before
+    .before .before .before .before .before .len-of in
+    length-front (loop .answer) (update-line .last .1 .1 .1 .1 .1 .1 .1 .1 .1 .1 .1 .1 .1 .0) (len-of .result)
+    (update-line .kept .1 .1 .1 .1 .1 .1 .1 .1 .1 .1 .1 .1 .1 .0) ∙ loop .inv .3
 
 same-length-6 : tie.Need-same-length-6 Inv-loop μ-loop
 same-length-6 c =
-    let update-line = c .before .before .before .before .before .before .before .before .before .before .before .before .before .before .update-line in
-    let loop = c .before .before .before .before .before .before .before .before .before .before .before .before .before .before .before .before .before .before .before .before .before .before .before .before .before .loop in
+    let update-line = c .before .before .before .before .before .before .before .before .before .before .before .before .before .before .update-line
+    in
+    let loop = c .before .before .before .before .before .before .before .before .before .before .before .before .before .before .before .before
+    .before .before .before .before .before .before .before .before .before .loop in
     update-line .kept .1 .1 .1 .1 .1 .1 .1 .1 .1 .1 .1 .1 .1 .1 .1 .0 ∙ loop .inv .4
 
 returns : tie.Need-returns Inv-loop μ-loop
 returns c =
-    let pre = c .before .before .before .before .before .before .before .before .before .before .before .before .before .before .before .before .before .before .before .before .before .before .before .before .before .before .before .before .before .before .before .before .before .before .before .before .before .before .pre in
-    let loop = c .before .before .before .before .before .before .before .before .before .before .before .before .before .before .before .before .before .before .before .before .before .before .before .before .before .loop in
-    let line-of = c .before .before .before .before .before .before .before .before .before .before .before .before .before .before .before .before .before .before .before .before .before .before .line-of in
-    let update-line = c .before .before .before .before .before .before .before .before .before .before .before .before .before .before .update-line in
-    run-refuses _ _ _ _ _ _ _ (pre .right) (loop .inv .0) (line-of .result) (loop .left - 1) (near (c .before .before .before .before .before .before .before .before .before .before .before .before .before .before .before .before .before .before .before .before .before .before .before .before)) (line-of .ensures)
+    let start = c .before .before .before .before .before .before .before .before .before .before .before .before .before .before .before .before
+    .before .before .before .before .before .before .before .before .before .before .before .before .before .before .before .before .before
+    .before .before .before .before .before in
+    let pre = start .pre in
+    let loop = c .before .before .before .before .before .before .before .before .before .before .before .before .before .before .before .before
+    .before .before .before .before .before .before .before .before .before .loop in
+    let line-of = c .before .before .before .before .before .before .before .before .before .before .before .before .before .before .before .before
+    .before .before .before .before .before .before .line-of in
+    let update-line = c .before .before .before .before .before .before .before .before .before .before .before .before .before .before .update-line
+    in
+    run-refuses _ _ _ _ _ _ _ (pre .right) (loop .inv .0) (line-of .result) (loop .left - 1)
+    (near (c .before .before .before .before .before .before .before .before .before .before .before .before .before .before .before .before
+    .before .before .before .before .before .before .before .before)) (line-of .ensures)
     (update-line .ensures .no (not-true (update-line .result .solved) (c .if1 .taken)))
 
 add-lines : tie.Need-add-lines Inv-loop μ-loop
 add-lines c =
-    let loop = c .before .before .before .before .before .before .before .before .before .before .before .before .before .before .before .before .before .before .before .before .before .before .before .before .before .loop in
-    let pre = c .before .before .before .before .before .before .before .before .before .before .before .before .before .before .before .before .before .before .before .before .before .before .before .before .before .before .before .before .before .before .before .before .before .before .before .before .before .before .pre in
-    let good = c .before .before .before .before .before .before .before .before .before .before .before .before .before .before .before .before .before .before .before .before .before .before .before .before .before .before .before .before .before .before .before .before .before .before .before .before .before .before .good in
-    omega (arith, loop .inv .0 .spent, loop .inv .0 .enough, few _ _ _ _ _ _ _ (pre .right) (run-starts _ _ _ _ _ _ _ pre), pre .reports, good)
+    let start = c .before .before .before .before .before .before .before .before .before .before .before .before .before .before .before .before
+    .before .before .before .before .before .before .before .before .before .before .before .before .before .before .before .before .before
+    .before .before .before .before .before in
+    let pre = start .pre in
+    let loop = c .before .before .before .before .before .before .before .before .before .before .before .before .before .before .before .before
+    .before .before .before .before .before .before .before .before .before .loop in
+    omega (arith, loop .inv .0 .spent, loop .inv .0 .enough, few _ _ _ _ _ _ _ (pre .right) (run-starts _ _ _ _ _ _ _ pre), pre .reports, start .good)
 
 loop-less : tie.Need-loop-less Inv-loop μ-loop
 loop-less c =
-    let pre = c .before .before .before .before .before .before .before .before .before .before .before .before .before .before .before .before .before .before .before .before .before .before .before .before .before .before .before .before .before .before .before .before .before .before .before .before .before .before .pre in
-    let loop = c .before .before .before .before .before .before .before .before .before .before .before .before .before .before .before .before .before .before .before .before .before .before .before .before .before .loop in
-    let line-of = c .before .before .before .before .before .before .before .before .before .before .before .before .before .before .before .before .before .before .before .before .before .before .line-of in
-    let update-line = c .before .before .before .before .before .before .before .before .before .before .before .before .before .before .update-line in
-    run-less _ _ _ _ _ _ _ (pre .right) (loop .inv .0) (line-of .result) (loop .left - 1) (near (c .before .before .before .before .before .before .before .before .before .before .before .before .before .before .before .before .before .before .before .before .before .before .before .before)) (line-of .ensures)
+    let start = c .before .before .before .before .before .before .before .before .before .before .before .before .before .before .before .before
+    .before .before .before .before .before .before .before .before .before .before .before .before .before .before .before .before .before
+    .before .before .before .before .before in
+    let pre = start .pre in
+    let loop = c .before .before .before .before .before .before .before .before .before .before .before .before .before .before .before .before
+    .before .before .before .before .before .before .before .before .before .loop in
+    let line-of = c .before .before .before .before .before .before .before .before .before .before .before .before .before .before .before .before
+    .before .before .before .before .before .before .line-of in
+    let update-line = c .before .before .before .before .before .before .before .before .before .before .before .before .before .before .update-line
+    in
+    run-less _ _ _ _ _ _ _ (pre .right) (loop .inv .0) (line-of .result) (loop .left - 1)
+    (near (c .before .before .before .before .before .before .before .before .before .before .before .before .before .before .before .before
+    .before .before .before .before .before .before .before .before)) (line-of .ensures)
     (update-line .ensures .yes (not-false (update-line .result .solved) (c .if1 .left)))
 
 loop-again : tie.Need-loop-again Inv-loop μ-loop
 loop-again c =
-    let pre = c .before .before .before .before .before .before .before .before .before .before .before .before .before .before .before .before .before .before .before .before .before .before .before .before .before .before .before .before .before .before .before .before .before .before .before .before .before .before .pre in
-    let loop = c .before .before .before .before .before .before .before .before .before .before .before .before .before .before .before .before .before .before .before .before .before .before .before .before .before .loop in
-    let line-of = c .before .before .before .before .before .before .before .before .before .before .before .before .before .before .before .before .before .before .before .before .before .before .line-of in
-    let update-line = c .before .before .before .before .before .before .before .before .before .before .before .before .before .before .update-line in
-    let len-of = c .before .before .before .before .before .before .before .before .before .before .before .before .before .before .before .before .before .before .before .before .before .len-of in (
-      run-moves _ _ _ _ _ _ _ (pre .right) (loop .inv .0) (line-of .result) (loop .left - 1) (near (c .before .before .before .before .before .before .before .before .before .before .before .before .before .before .before .before .before .before .before .before .before .before .before .before)) (line-of .ensures)
+    let start = c .before .before .before .before .before .before .before .before .before .before .before .before .before .before .before .before
+    .before .before .before .before .before .before .before .before .before .before .before .before .before .before .before .before .before
+    .before .before .before .before .before in
+    let pre = start .pre in
+    let loop = c .before .before .before .before .before .before .before .before .before .before .before .before .before .before .before .before
+    .before .before .before .before .before .before .before .before .before .loop in
+    let line-of = c .before .before .before .before .before .before .before .before .before .before .before .before .before .before .before .before
+    .before .before .before .before .before .before .line-of in
+    let update-line = c .before .before .before .before .before .before .before .before .before .before .before .before .before .before .update-line
+    in
+    let len-of = c .before .before .before .before .before .before .before .before .before .before .before .before .before .before .before .before
+    .before .before .before .before .before .len-of in (
+      run-moves _ _ _ _ _ _ _ (pre .right) (loop .inv .0) (line-of .result) (loop .left - 1)
+          (near (c .before .before .before .before .before .before .before .before .before .before .before .before .before .before .before .before
+          .before .before .before .before .before .before .before .before)) (line-of .ensures)
           (update-line .ensures .yes (not-false (update-line .result .solved) (c .if1 .left))),
       update-line .kept .1 .1 .1 .1 .1 .1 .1 .1 .1 .1 .1 .0 ∙ loop .inv .1,
       update-line .kept .1 .1 .1 .1 .1 .1 .1 .1 .1 .1 .1 .1 .0 ∙ loop .inv .2,
-      length-front (loop .answer) (update-line .last .1 .1 .1 .1 .1 .1 .1 .1 .1 .1 .1 .1 .1 .0) (len-of .result) (update-line .kept .1 .1 .1 .1 .1 .1 .1 .1 .1 .1 .1 .1 .1 .0) ∙ loop .inv .3,
+      length-front (loop .answer) (update-line .last .1 .1 .1 .1 .1 .1 .1 .1 .1 .1 .1 .1 .1 .0) (len-of .result)
+          (update-line .kept .1 .1 .1 .1 .1 .1 .1 .1 .1 .1 .1 .1 .1 .0) ∙ loop .inv .3,
       update-line .kept .1 .1 .1 .1 .1 .1 .1 .1 .1 .1 .1 .1 .1 .1 .1 .0 ∙ loop .inv .4,
     )
 
 same-length-7 : tie.Need-same-length-7 Inv-loop μ-loop
 same-length-7 c =
-    let pre = c .before .before .before .before .before .before .before .before .before .before .before .before .before .before .pre in
+    let start = c .before .before .before .before .before .before .before .before .before .before .before .before .before .before in
+    let pre = start .pre in
     c .before .loop .inv .0 .grid .size ∙ sym (pre .grid .size)
 
 same-length-8 : tie.Need-same-length-8 Inv-loop μ-loop
 same-length-8 c =
-    let pre = c .before .before .before .before .before .before .before .before .before .before .before .before .before .before .pre in
+    let start = c .before .before .before .before .before .before .before .before .before .before .before .before .before .before in
+    let pre = start .pre in
     long _ _ _ _ _ _ _ (pre .right) (c .before .loop .inv .0)
 
 same-length-9 : tie.Need-same-length-9 Inv-loop μ-loop
@@ -182,7 +244,8 @@ same-length-12 c = c .before .loop .inv .4
 
 returns-2 : tie.Need-returns-2 Inv-loop μ-loop
 returns-2 c =
-    let pre = c .before .before .before .before .before .before .before .before .before .before .before .before .before .before .pre in
+    let start = c .before .before .before .before .before .before .before .before .before .before .before .before .before .before in
+    let pre = start .pre in
     run-stops _ _ _ _ _ _ _ (pre .right) (c .before .loop .inv .0) (c .loop-test .left)
 
 pub run-jobs-spec : {M : Type 1} → statement M

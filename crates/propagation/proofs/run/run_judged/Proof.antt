@@ -18,7 +18,9 @@ slice-aggregate-run-jobs-2 c = search needs
 
 run-jobs-requires : tie.Need-run-jobs-requires
 run-jobs-requires c κs =
-    let pre = c .before .before .before .before .before .before .before .before .before .before .before .before .before .before .before .before .before .before .before .before .pre in
+    let start = c .before .before .before .before .before .before .before .before .before .before .before .before .before .before .before .before
+    .before .before .before .before in
+    let pre = start .pre in
     let set-up = c .before .before .before .before .before .before .before .before .set-up in
     begins pre _ _ _ _ (omega arith) (omega arith) (set-up .kept .1 .1 .1 .0) (set-up .ensures .1)
 
@@ -35,14 +37,18 @@ same-length-4 : tie.Need-same-length-4
 same-length-4 c = search needs
 
 abbrev card : (c : tie.Start) → Card
-card c = let a = c .args in cardOf (a .row-counts .now) (a .row-sizes .now) (a .row-colours .now) (a .column-counts .now) (a .column-sizes .now) (a .column-colours .now)
+card c = let a = c .args in cardOf (a .row-counts .now) (a .row-sizes .now) (a .row-colours .now) (a .column-counts .now) (a .column-sizes .now)
+    (a .column-colours .now)
 
 returns : tie.Need-returns
 returns c =
-    let args = c .before .before .before .before .before .before .before .before .before .before .before .before .before .before .before .before .before .before .before .before .before .before .before .before .before .before .before .before .before .before .before .args in
-    let set-up = c .before .before .before .before .before .before .before .before .before .before .before .before .before .before .before .before .before .before .before .set-up in
+    let start = c .before .before .before .before .before .before .before .before .before .before .before .before .before .before .before .before
+    .before .before .before .before .before .before .before .before .before .before .before .before .before .before .before in
+    let args = start .args in
+    let set-up = c .before .before .before .before .before .before .before .before .before .before .before .before .before .before .before .before
+    .before .before .before .set-up in
     let run-jobs = c .before .before .before .before .before .before .before .before .before .before .run-jobs in
-    ended (args .width) (args .height) (args .start) (card (c .before .before .before .before .before .before .before .before .before .before .before .before .before .before .before .before .before .before .before .before .before .before .before .before .before .before .before .before .before .before .before)) (args .grid .now) _ _ (set-up .ensures .0) (set-up .ensures .1) (run-jobs .ensures)
+    ended (args .width) (args .height) (args .start) (card start) (args .grid .now) _ _ (set-up .ensures .0) (set-up .ensures .1) (run-jobs .ensures)
 
 pub run-judged-spec : {M : Type 1} → statement M
 run-judged-spec =

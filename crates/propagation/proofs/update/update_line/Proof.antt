@@ -9,19 +9,23 @@ use Rattle.propagation.proofs.update.update_line.Tie as tie
 
 line-part-requires : tie.Need-line-part-requires
 line-part-requires c κs =
-    let pre = c .before .before .before .before .before .before .before .before .before .before .before .before .pre in
-    let args = c .before .before .before .before .before .before .before .before .before .before .before .before .args in
+    let start = c .before .before .before .before .before .before .before .before .before .before .before .before in
+    let pre = start .pre in
+    let args = start .args in
     parts-asked pre (args .row-sizes .now) (args .column-sizes .now) refl refl
 
 line-part-requires-2 : tie.Need-line-part-requires-2
 line-part-requires-2 c κs =
-    let pre = c .before .before .before .before .before .before .before .before .before .before .before .before .before .pre in
-    let args = c .before .before .before .before .before .before .before .before .before .before .before .before .before .args in
+    let start = c .before .before .before .before .before .before .before .before .before .before .before .before .before in
+    let pre = start .pre in
+    let args = start .args in
     parts-asked pre (args .row-colours .now) (args .column-colours .now) (pre .right .rows .pairs) (pre .right .columns .pairs)
 
 solve-at-requires : tie.Need-solve-at-requires
 solve-at-requires c κs =
-    let pre = c .before .before .before .before .before .before .before .before .before .before .before .before .before .before .before .before .before .before .before .pre in
+    let start = c .before .before .before .before .before .before .before .before .before .before .before .before .before .before .before .before
+    .before .before .before in
+    let pre = start .pre in
     let line-part = c .before .before .before .before .before .before .line-part in
     let line-part2 = c .before .before .before .before .before .line-part2 in
     tried pre (line-part .ensures) (line-part2 .ensures)
@@ -43,9 +47,13 @@ same-length-5 c = search needs
 
 returns : tie.Need-returns
 returns c =
-    let pre = c .before .before .before .before .before .before .before .before .before .before .before .before .before .before .before .before .before .before .before .before .before .before .before .before .before .before .before .before .before .before .pre in
-    let line-part = c .before .before .before .before .before .before .before .before .before .before .before .before .before .before .before .before .before .line-part in
-    let line-part2 = c .before .before .before .before .before .before .before .before .before .before .before .before .before .before .before .before .line-part2 in
+    let start = c .before .before .before .before .before .before .before .before .before .before .before .before .before .before .before .before
+    .before .before .before .before .before .before .before .before .before .before .before .before .before .before in
+    let pre = start .pre in
+    let line-part = c .before .before .before .before .before .before .before .before .before .before .before .before .before .before .before .before
+    .before .line-part in
+    let line-part2 = c .before .before .before .before .before .before .before .before .before .before .before .before .before .before .before
+    .before .line-part2 in
     let solve-at = c .before .before .before .before .before .before .before .before .before .before .solve-at in
     record {
       no = λ e. refuses pre (line-part .ensures) (line-part2 .ensures) (solve-at .ensures) (not-true (solve-at .result .solved) (c .if1 .taken));
@@ -54,9 +62,13 @@ returns c =
 
 store-line-requires : tie.Need-store-line-requires
 store-line-requires c κs =
-    let pre = c .before .before .before .before .before .before .before .before .before .before .before .before .before .before .before .before .before .before .before .before .before .before .before .before .before .before .before .before .before .before .before .before .before .pre in
-    let line-part = c .before .before .before .before .before .before .before .before .before .before .before .before .before .before .before .before .before .before .before .before .line-part in
-    let line-part2 = c .before .before .before .before .before .before .before .before .before .before .before .before .before .before .before .before .before .before .before .line-part2 in
+    let start = c .before .before .before .before .before .before .before .before .before .before .before .before .before .before .before .before
+    .before .before .before .before .before .before .before .before .before .before .before .before .before .before .before .before .before in
+    let pre = start .pre in
+    let line-part = c .before .before .before .before .before .before .before .before .before .before .before .before .before .before .before .before
+    .before .before .before .before .line-part in
+    let line-part2 = c .before .before .before .before .before .before .before .before .before .before .before .before .before .before .before
+    .before .before .before .before .line-part2 in
     let solve-at = c .before .before .before .before .before .before .before .before .before .before .before .before .before .solve-at in
     let if1 = c .before .before .before .if1 in
     storable pre (line-part .ensures) (line-part2 .ensures) (solve-at .ensures) (not-false (solve-at .result .solved) (if1 .left))
@@ -81,15 +93,22 @@ same-length-11 c = search needs
 
 returns-2 : tie.Need-returns-2
 returns-2 c =
-    let pre = c .before .before .before .before .before .before .before .before .before .before .before .before .before .before .before .before .before .before .before .before .before .before .before .before .before .before .before .before .before .before .before .before .before .before .before .before .before .before .pre in
-    let line-part = c .before .before .before .before .before .before .before .before .before .before .before .before .before .before .before .before .before .before .before .before .before .before .before .before .before .line-part in
-    let line-part2 = c .before .before .before .before .before .before .before .before .before .before .before .before .before .before .before .before .before .before .before .before .before .before .before .before .line-part2 in
-    let solve-at = c .before .before .before .before .before .before .before .before .before .before .before .before .before .before .before .before .before .before .solve-at in
+    let start = c .before .before .before .before .before .before .before .before .before .before .before .before .before .before .before .before
+    .before .before .before .before .before .before .before .before .before .before .before .before .before .before .before .before .before
+    .before .before .before .before .before in
+    let pre = start .pre in
+    let line-part = c .before .before .before .before .before .before .before .before .before .before .before .before .before .before .before .before
+    .before .before .before .before .before .before .before .before .before .line-part in
+    let line-part2 = c .before .before .before .before .before .before .before .before .before .before .before .before .before .before .before
+    .before .before .before .before .before .before .before .before .before .line-part2 in
+    let solve-at = c .before .before .before .before .before .before .before .before .before .before .before .before .before .before .before .before
+    .before .before .solve-at in
     let if1 = c .before .before .before .before .before .before .before .before .if1 in
     let store-line = c .before .before .before .before .store-line in
     record {
       no = λ e. absurd (true-not-false e);
-      yes = λ e. moves pre (line-part .ensures) (line-part2 .ensures) (solve-at .ensures) (not-false (solve-at .result .solved) (if1 .left)) (store-line .ensures);
+      yes = λ e. moves pre (line-part .ensures) (line-part2 .ensures) (solve-at .ensures) (not-false (solve-at .result .solved) (if1 .left))
+          (store-line .ensures);
     }
 
 pub update-line-spec : {M : Type 1} → statement M
