@@ -14,17 +14,17 @@ use Rattle.rules.specs.Board.{row, column, lineOf}
 use Rattle.grid.specs.Grid.{Grid}
 
 module _ {w h : ℕ} {b : List ℕ} (g : Grid w h b) where
-  size : length b ≡ h * w
-  size = omega (arith, g .size)
+  pub sized : length b ≡ h * w
+  sized = omega (arith, g .size)
 
   pub cell-in : (x y : ℕ) → x < w → y < h → y * w + x < length b
-  cell-in x y p q = omega (arith, place-lt w h (column x) y p q, size)
+  cell-in x y p q = omega (arith, place-lt w h (column x) y p q, sized)
 
   pub row-in : (y : ℕ) → y < h → y * w + w ≤ length b
-  row-in y q = omega (arith, mul-le-mul-right w q, size)
+  row-in y q = omega (arith, mul-le-mul-right w q, sized)
 
   pub row-line : (y : ℕ) → y < h → take w (drop (y * w) b) ≡ lineOf w h b (row y)
-  row-line y q = sym (row-part w h b size y q)
+  row-line y q = sym (row-part w h b sized y q)
 
   -- the column's cells, one after the other
   pub column-step : (x y : ℕ) → y < h → drop y (lineOf w h b (column x)) ≡ getD b (y * w + x) 0 ∷ drop (y + 1) (lineOf w h b (column x))

@@ -1,7 +1,5 @@
--- One line of a run, the loop, the calls' statements from what was judged and run; then what the statements give.
+-- Loops over cells; the calls' statements from what was judged and run; then what the statements give.
 pub mod Cells
-pub mod Updating
-pub mod Running
 pub mod Told
 pub mod Order
 pub mod Unique

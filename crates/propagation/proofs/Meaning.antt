@@ -1,7 +1,6 @@
 -- Demand 3 of the calls' own answers, what follows from it, and the bounds of the counts: for both kinds of cell, whose boards are read as sets.
-use mathlib.Core.Path.{_≡_, refl, sym, ap, _∙_, subst}
+use mathlib.Core.Path.{_≡_, refl, sym, ap, _∙_}
 use mathlib.Core.Logic.{_⊎_, inl, inr, ⊎-elim, _≢_, _↔_}
-use mathlib.Core.Bool.{true, false}
 use mathlib.Core.List.{List, [], map, List·Memᴰ}
 use mathlib.Core.Option.{none}
 use Prim.Native.Nat.{ℕ, _+_, _≤_, _<_}
@@ -9,10 +8,10 @@ use native.Mathlib.Omega.{arith}
 use lib.ListN.{length, getD}
 use Rattle.rules.specs.Answer.{Proper, Within}
 use Rattle.rules.specs.Binary.{setOf, cellOf}
-use Rattle.rules.specs.Board.{row, column, On, Settled, Stable, Picture, Widest, Unsettled}
+use Rattle.rules.specs.Board.{row, column, On, Stable, Picture, Widest, Unsettled}
 use Rattle.rules.specs.Card.{Card, clueOf, Straight, solveStraight}
 use Rattle.rules.specs.Refusal.{verdict}
-use Rattle.rules.specs.Run.{room, Outcome, done, refused, Runs, boardOf, reportOf, solvedOf, Ends, Alike}
+use Rattle.rules.specs.Run.{room, Outcome, done, refused, Runs, boardOf, reportOf, solvedOf, Ends}
 use Rattle.rules.specs.declared.LinePosition.{LinePosition}
 use Rattle.rules.specs.declared.ColumnIndex.{ColumnIndex}
 use Rattle.rules.specs.declared.RowIndex.{RowIndex}
@@ -26,12 +25,14 @@ use Rattle.rules.proofs.RunSteps.{full-solved, point-solved}
 use Rattle.rules.proofs.Runs.{any-order}
 use Rattle.rules.proofs.Settled.{settled-cell, picture-settled, widest-one, widest-again, widest-mono, widest-picture}
 use Rattle.card.proofs.Clued.{clue-legal}
-use Rattle.propagation.specs.declared.Start.{Start}
-use Rattle.propagation.specs.declared.Start.the-variants.{Full, Point}
-use Rattle.propagation.specs.Calls.{runRules, binaryRules, Reply, reply, replyTo, endOf, Answered, coloured, binary, Passed}
-use Rattle.propagation.specs.Steps.{startCount, Judged}
-use Rattle.propagation.proofs.Updating.{sized}
-use Rattle.propagation.proofs.Told.{judged, judged-binary, proper, spent, cells-small}
+use Rattle.run.specs.declared.Start.{Start}
+use Rattle.run.specs.declared.Start.the-variants.{Full, Point}
+use Rattle.propagation.specs.Calls.{runRules, binaryRules, reply, Answered, coloured, binary, Passed}
+use Rattle.run.specs.Ends.{Reply, replyTo, endOf}
+use Rattle.run.specs.Steps.{startCount, Judged}
+use Rattle.grid.proofs.Rows.{sized}
+use Rattle.propagation.proofs.Told.{judged, judged-binary, cells-small}
+use Rattle.run.proofs.Started.{proper, spent}
 
 -- the placements of a card's lines
 abbrev pub Placed : ℕ → ℕ → Card → LinePosition → List ℕ → Type 0

@@ -7,7 +7,7 @@ use Rattle.rules.specs.Refusal.{verdict, Lowest}
 use Rattle.rules.specs.declared.Refusal.{Refusal}
 use Rattle.rules.specs.declared.Verdict.the-variants.{Bad}
 use Rattle.rules.proofs.Verdicts.{verdict-lowest}
-use Rattle.propagation.specs.declared.Start.{Start}
+use Rattle.run.specs.declared.Start.{Start}
 use Rattle.propagation.specs.Calls.{runRules, binaryRules}
 
 module _ (w h : ℕ) (s : Start) (c : Card) (grid : List ℕ) (report memo stack : ℕ) {r : Refusal} where

@@ -1,45 +1,38 @@
 -- From the rules to what a run asks, and from its end to the call's statement.
 use mathlib.Core.Path.{_≡_, refl, sym, ap, ap₂, _∙_, subst}
-use mathlib.Core.Bool.{Bool, true, false, not, _&&_}
+use mathlib.Core.Bool.{true, false, not}
 use mathlib.Core.List.{List, [], _∷_, _++_, map}
-use Prim.Native.Nat.{ℕ, suc, _+_, _*_, _≤_, _<_}
+use Prim.Native.Nat.{ℕ, suc, _+_, _*_, _≤_}
 use native.Mathlib.Nat.{mul-le-mul}
 use native.Mathlib.Omega.{arith}
 use borrow.Author.Tests.{ltb-true, ltb-false, not-false}
 use lib.Dec.{ltb}
-use lib.ListN.{length, getD, take, replicate, length-map}
+use lib.ListN.{length, getD, take, length-map}
 use lib.Seq.{sets}
-use Rattle.rules.specs.Answer.{Proper}
 use Rattle.rules.specs.Binary.{setOf, cellOf}
 use Rattle.rules.specs.Block.{blacks}
-use Rattle.rules.specs.Card.{Card, blackCard, sum, clueOf, Straight, solveStraight}
+use Rattle.rules.specs.Card.{Card, blackCard, sum}
 use Rattle.rules.specs.CardRules.{cardRules}
 use Rattle.rules.specs.Ranges.{anyOf}
 use Rattle.rules.specs.Refusal.{Rule, _when_, verdict, cellRules}
-use Rattle.rules.specs.Run.{room, Outcome, run, fullRun, pointRun, fullStack, pointStack, boardOf, reportOf}
-use Rattle.rules.specs.declared.LinePosition.{LinePosition}
+use Rattle.rules.specs.Run.{room, Outcome, run, reportOf}
 use Rattle.rules.specs.declared.Refusal.{Refusal}
 use Rattle.rules.specs.declared.Refusal.the-variants.{BadCell, OutsideGrid, ShortReport}
 use Rattle.rules.specs.declared.Verdict.the-variants.{Fine, Bad}
 use Rattle.rules.proofs.Blocks.{blacks-take}
-use Rattle.rules.proofs.Cards.{straight-proper, straight-right}
-use Rattle.rules.proofs.Runs.{full-spent, point-spent}
 use Rattle.rules.proofs.Searching.{not-above}
 use Rattle.rules.proofs.Tests.{both-true}
 use Rattle.rules.proofs.Verdicts.{bad-not-fine, fine-cons, append-bad, append-fine, append-parts}
 use Rattle.loops.proofs.Going.{written-sets}
-use Rattle.grid.specs.Grid.{Grid}
-use Rattle.stack.specs.Stack.{stackOf, Lines}
-use Rattle.stack.proofs.Onces.{lines-point, lines-full}
-use Rattle.card.specs.Steps.{cardOf, Direction, RightCard}
+use Rattle.card.specs.Steps.{cardOf, Direction}
 use Rattle.card.proofs.Counted.{card-known, card-right}
-use Rattle.card.proofs.Clued.{clue-legal}
-use Rattle.propagation.specs.declared.Start.{Start}
-use Rattle.propagation.specs.declared.Start.the-variants.{Full, Point}
-use Rattle.propagation.specs.declared.RunAnswer.{RunAnswer}
-use Rattle.propagation.specs.Calls.{inGrid, endRules, runRules, binaryRules, Reply, refusal, replyTo, endOf, Ran}
-use Rattle.propagation.specs.Steps.{InGrid, startCount, startStack, Begins, Ended, Judged, Blackened, EndedBinary}
-use Rattle.propagation.proofs.Updating.{sized}
+use Rattle.run.specs.declared.Start.{Start}
+use Rattle.run.specs.declared.Start.the-variants.{Full, Point}
+use Rattle.run.specs.declared.RunAnswer.{RunAnswer}
+use Rattle.propagation.specs.Calls.{inGrid, endRules, runRules, binaryRules, Ran}
+use Rattle.run.specs.Ends.{Reply, refusal, replyTo, endOf}
+use Rattle.run.specs.Steps.{InGrid, Ended, Judged}
+use Rattle.propagation.specs.Steps.{Blackened, EndedBinary}
 
 -- ---- the rules, one after the other
 
@@ -120,59 +113,6 @@ module _ (w h : ℕ) (s : Start) (c : Card) (grid report memo stack : List ℕ) 
       let p = append-parts (cardRules w h (length grid) c (length memo) (length stack)) (cellRules grid ++ ends) e in
       let q = append-parts (cellRules grid) ends (p .1) in
       not-above 2 grid (fine-cons (BadCell when anyOf (λ n. ltb 2 n) grid) [] (q .0) .0)
-
--- ---- where a run begins
-
-start-lines : (w h : ℕ) (s : Start) → InGrid w h s → Lines w h (startStack w h s)
-start-lines w h Full i = lines-full w h
-start-lines w h (Point x y) i = lines-point (x .0) (y .0) (i .0) (i .1)
-
-module _ {w h : ℕ} {s : Start} {c : Card} {b report memo stack : List ℕ} (j : Judged w h s c b report memo stack) where
-  pub begins : (column answer stack′ : List ℕ) (n : ℕ) → 64 ≤ length column → 64 ≤ length answer → length stack′ ≡ length stack
-      → stackOf stack′ n ≡ startStack w h s → Begins w h c b report memo column answer stack′ n
-  begins column answer stack′ n p q l e =
-      record {
-        grid = j .grid;
-        right = j .right;
-        lines = rw e (start-lines w h s (j .inside));
-        works = q;
-        copy = omega (arith, j .grid .high-most);
-        memos = j .memos;
-        stacked = omega (arith, j .stacked);
-        reports = j .reports;
-      }
-
-  pub proper : (l : LinePosition) (p : List ℕ) → Straight w h (clueOf c) l p → Proper p
-  proper = straight-proper w h (clueOf c) (clue-legal (j .right))
-
-  -- every entry costs a colour
-  pub spent : length (reportOf (endOf w h s c b)) + room (boardOf (endOf w h s c b)) ≤ room b
-  spent = go s (j .inside)
-    where
-      go : (s : Start) → InGrid w h s → length (reportOf (endOf w h s c b)) + room (boardOf (endOf w h s c b)) ≤ room b
-      go Full i =
-          full-spent w h proper (j .grid .wide) (j .grid .high) (solveStraight w h (clueOf c))
-          (straight-right w h (clueOf c) (clue-legal (j .right))) b (sized (j .grid))
-      go (Point x y) i =
-          point-spent w h proper (j .grid .wide) (j .grid .high) (solveStraight w h (clueOf c))
-          (straight-right w h (clueOf c) (clue-legal (j .right))) (x .0) (y .0) b (i .0) (i .1) (sized (j .grid))
-
-  -- the report has room for what is told
-  pub told-fits : length (reportOf (endOf w h s c b)) ≤ length report
-  told-fits = omega (arith, spent, j .reports)
-
-end-is : (w h : ℕ) (s : Start) (c : Card) (b : List ℕ)
-    → run w h (solveStraight w h (clueOf c)) (room b + startCount w h s) (startStack w h s) b [] 0 ≡ endOf w h s c b
-unfolding fullRun pointRun
-end-is w h Full c b = refl
-end-is w h (Point x y) c b = refl
-
-pub ended : (w h : ℕ) (s : Start) (c : Card) (b : List ℕ) {report b′ report′ : List ℕ} {r : RunAnswer} (stack : List ℕ) (n : ℕ) → n ≡ startCount w h s
-    → stackOf stack n ≡ startStack w h s → Ended (run w h (solveStraight w h (clueOf c)) (room b + n) (stackOf stack n) b [] 0) r b′ report report′
-    → Ended (endOf w h s c b) r b′ report report′
-ended w h s c b {report} {b′} {report′} {r} stack n e f v =
-    subst (λ (o : Outcome). Ended o r b′ report report′)
-    (ap₂ (λ (k : ℕ) (st : List LinePosition). run w h (solveStraight w h (clueOf c)) (room b + k) st b [] 0) e f ∙ end-is w h s c b) v
 
 -- ---- black colours
 

@@ -12,10 +12,11 @@ use Rattle.rules.specs.declared.LinePosition.{LinePosition}
 use Rattle.rules.specs.declared.Refusal.{Refusal}
 use Rattle.rules.specs.declared.Verdict.the-variants.{Bad}
 use Rattle.rules.proofs.Replies.{same, number-one, by-checking}
-use Rattle.propagation.specs.declared.Start.{Start}
-use Rattle.propagation.specs.declared.RunAnswer.{RunAnswer}
-use Rattle.propagation.specs.declared.RunAnswer.the-variants.{Done, Unsolvable, Refused}
-use Rattle.propagation.specs.Calls.{runRules, binaryRules, Reply, replyOf, Ran, Runs, RunsBinary}
+use Rattle.run.specs.declared.Start.{Start}
+use Rattle.run.specs.declared.RunAnswer.{RunAnswer}
+use Rattle.run.specs.declared.RunAnswer.the-variants.{Done, Unsolvable, Refused}
+use Rattle.propagation.specs.Calls.{runRules, binaryRules, Ran, Runs, RunsBinary}
+use Rattle.run.specs.Ends.{Reply, replyOf}
 
 line-one : {l k : LinePosition} → _≡_ {A = Option LinePosition} (some l) (some k) → l ≡ k
 line-one e = cc

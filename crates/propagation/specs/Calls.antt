@@ -3,24 +3,21 @@ use mathlib.Core.Path.{_≡_}
 use mathlib.Core.Logic.{_⊎_}
 use mathlib.Core.Bool.{Bool, true, not, _&&_}
 use mathlib.Core.List.{List, [], _∷_, _++_, map}
-use mathlib.Core.Option.{Option, none, some}
 use Prim.Native.Nat.{ℕ}
 use lib.Dec.{ltb}
 use lib.ListN.{length}
 use Rattle.rules.specs.Binary.{setOf, cellOf}
-use Rattle.rules.specs.Card.{Card, clueOf, solveStraight}
+use Rattle.rules.specs.Card.{Card}
 use Rattle.rules.specs.CardRules.{cardRules}
-use Rattle.rules.specs.Refusal.{refusalNumber, Rule, _when_, verdict, cellRules, left}
-use Rattle.rules.specs.Run.{room, Outcome, done, refused, fullRun, pointRun, boardOf, reportOf}
-use Rattle.rules.specs.declared.LinePosition.{LinePosition}
+use Rattle.rules.specs.Refusal.{Rule, _when_, verdict, cellRules, left}
+use Rattle.rules.specs.Run.{room, Outcome, boardOf, reportOf}
 use Rattle.rules.specs.declared.Refusal.{Refusal}
 use Rattle.rules.specs.declared.Refusal.the-variants.{OutsideGrid, ShortReport}
 use Rattle.rules.specs.declared.Verdict.{Verdict}
 use Rattle.rules.specs.declared.Verdict.the-variants.{Fine, Bad}
-use Rattle.propagation.specs.declared.Start.{Start}
-use Rattle.propagation.specs.declared.Start.the-variants.{Full, Point}
-use Rattle.propagation.specs.declared.RunAnswer.{RunAnswer}
-use Rattle.propagation.specs.declared.RunAnswer.the-variants.{Done, Unsolvable, Refused}
+use Rattle.run.specs.Ends.{Reply, refusal, replyTo, endOf}
+use Rattle.run.specs.declared.Start.{Start}
+use Rattle.run.specs.declared.Start.the-variants.{Full, Point}
 
 -- ---- rules: 1 to 4 are those of the card; 5 for binary cells; 6; 7
 
@@ -42,33 +39,6 @@ binaryRules w h s c grid report memo stack =
 
 -- ---- answers
 
--- document 01's number of each answer
-abbrev pub answerNumber : RunAnswer → ℕ
-answerNumber (Done entries lines) = 0
-answerNumber (Unsolvable line entries lines) = 8
-answerNumber (Refused w) = refusalNumber w
-
--- what an answer tells: its number, the line that refused, the entries written to the report and the lines solved
-pub record Reply : Type 0 where
-  pub number : ℕ
-  pub line : Option LinePosition
-  pub entries : ℕ
-  pub lines : ℕ
-
--- a refusal by checking has no line and no counts
-abbrev pub refusal : Refusal → Reply
-refusal w = record { number = refusalNumber w; line = none; entries = 0; lines = 0 }
-
-abbrev pub replyOf : RunAnswer → Reply
-replyOf (Done entries lines) = record { number = 0; line = none; entries = entries; lines = lines }
-replyOf (Unsolvable line entries lines) = record { number = 8; line = some line; entries = entries; lines = lines }
-replyOf (Refused w) = refusal w
-
--- what the end of a run asks to be told
-abbrev pub replyTo : Outcome → Reply
-replyTo (done b r k) = record { number = 0; line = none; entries = length r; lines = k }
-replyTo (refused l b r k) = record { number = 8; line = some l; entries = length r; lines = k }
-
 -- the reply by the rules and the run
 abbrev pub reply : Verdict → Outcome → Reply
 reply (Bad w) o = refusal w
@@ -80,11 +50,6 @@ gridLeft (Bad w) b grid = grid
 gridLeft Fine b grid = b
 
 -- ---- the statement
-
--- the run of a card by the order rules
-abbrev pub endOf : ℕ → ℕ → Start → Card → List ℕ → Outcome
-endOf w h Full c b = fullRun w h (solveStraight w h (clueOf c)) b
-endOf w h (Point x y) c b = pointRun w h (solveStraight w h (clueOf c)) (x .0) (y .0) b
 
 -- what all four calls promise, by their rules, the run's end and the board it leaves: the reply, and the grid and the report after the
 -- call. After 0 or 8 the memo and the stack are left open

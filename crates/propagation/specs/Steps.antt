@@ -1,126 +1,16 @@
--- What the private functions ask and tell. A reader of the public calls needs none of it.
+-- What the private functions ask and tell of binary cells. A reader of the public calls needs none of it.
 use mathlib.Core.Path.{_≡_}
-use mathlib.Core.Bool.{Bool, true, false}
-use mathlib.Core.List.{List, _∷_, map, List·Memᴰ}
-use mathlib.Core.Option.{none, some}
-use Prim.Native.Nat.{ℕ, _+_, _≤_, _<_}
-use lib.ListN.{length, replicate}
+use mathlib.Core.List.{List, map}
+use Prim.Native.Nat.{ℕ}
+use lib.ListN.{replicate}
 use lib.Seq.{sets}
-use Rattle.rules.specs.Binary.{setOf, cellOf, lineAnswer}
-use Rattle.rules.specs.Block.{Block, blocks, illegal}
-use Rattle.rules.specs.Board.{len, On, lineOf, store}
-use Rattle.rules.specs.Card.{Card, clueOf, solveStraight}
-use Rattle.rules.specs.Run.{pushAll, changed, room, Outcome, boardOf, reportOf, fullStack, pointStack}
-use Rattle.rules.specs.declared.LinePosition.{LinePosition}
-use Rattle.line.specs.Steps.{outcome}
-use Rattle.loops.specs.Put.{Put}
-use Rattle.grid.specs.Grid.{Grid, changes, news}
-use Rattle.stack.specs.Stack.{stackOf, Lines}
-use Rattle.card.specs.Steps.{RightCard}
-use Rattle.propagation.specs.Calls.{replyOf, replyTo}
-use Rattle.propagation.specs.declared.Start.{Start}
-use Rattle.propagation.specs.declared.Start.the-variants.{Full, Point}
-use Rattle.propagation.specs.declared.RunAnswer.{RunAnswer}
-use Rattle.propagation.specs.declared.update.Attempt.{Attempt}
-use Rattle.propagation.specs.declared.update.Step.{Step}
-
--- ---- one line of a run
-
--- the stack has room for the crossing lines of any of the line's n indexes
-pub record Roomy (n : ℕ) (l : LinePosition) (stack : List ℕ) (count : ℕ) : Type 0 where
-  pub space : (js : List ℕ) → ((j : ℕ) → List·Memᴰ j js → j < n) → length (pushAll l js (stackOf stack count)) < length stack
-
--- the attempt tells the answer of the line whose cells these are; where there is one, the crossing lines of its changes are pushed
-pub record Attempted (bs : List Block) (l : LinePosition) (cells stack : List ℕ) (count : ℕ) (r : Attempt) (answer′ stack′ : List ℕ) : Type 0 where
-  pub tells : lineAnswer bs cells ≡ outcome (r .solved) answer′
-  pub pushes : r .solved ≡ true → stackOf stack′ (r .stacked) ≡ pushAll l (changed 0 cells answer′) (stackOf stack count)
-
--- what is asked of a line of the grid and its blocks
-pub record Tried (w h : ℕ) (l : LinePosition) (b sizes colours memo column answer stack : List ℕ) (count : ℕ) : Type 0 where
-  pub grid : Grid w h b
-  pub on : On w h l
-  pub exact : length answer ≡ len w h l
-  pub copy : h ≤ length column
-  pub memos : 4160 ≤ length memo
-  pub paired : length sizes ≡ length colours
-  pub few : length sizes ≤ 64
-  pub legal : illegal (blocks sizes colours) ≡ false
-  pub roomy : Roomy (len w h l) l stack count
-
--- before a line is taken up: it has left the stack, on which it and the other lines stand once
-pub record Ready (w h : ℕ) (c : Card) (l : LinePosition) (b report : List ℕ) (entries : ℕ) (memo column answer stack : List ℕ)
-    (count : ℕ) : Type 0 where
-  pub grid : Grid w h b
-  pub right : RightCard w h c
-  pub lines : Lines w h (l ∷ stackOf stack count)
-  pub exact : length answer ≡ len w h l
-  pub copy : h ≤ length column
-  pub memos : 4160 ≤ length memo
-  pub stacked : 128 ≤ length stack
-  pub reports : entries + room b ≤ length report
-
--- the line was refused: nothing is stored
-pub record Refuses (w h : ℕ) (c : Card) (l : LinePosition) (b report b′ report′ : List ℕ) : Type 0 where
-  pub refused : solveStraight w h (clueOf c) l (lineOf w h b l) ≡ none
-  pub board : b′ ≡ b
-  pub reports : report′ ≡ report
-
--- the line was solved: it is stored, its changes are reported and their crossing lines pushed
-pub record Moves (w h : ℕ) (c : Card) (l : LinePosition) (b report : List ℕ) (entries : ℕ) (stack : List ℕ) (count : ℕ) (b′ report′ : List ℕ)
-    (entries′ : ℕ) (stack′ : List ℕ) (count′ : ℕ) : Type 0 where
-  pub cells : List ℕ
-  pub solved : solveStraight w h (clueOf c) l (lineOf w h b l) ≡ some cells
-  pub board : b′ ≡ store w l cells b
-  pub stacks : stackOf stack′ count′ ≡ pushAll l (changes w h l cells b) (stackOf stack count)
-  pub reports : Put report entries (news w h l cells b) entries′ report′
-
-pub record Updated (w h : ℕ) (c : Card) (l : LinePosition) (b report : List ℕ) (entries : ℕ) (stack : List ℕ) (count : ℕ) (s : Step)
-    (b′ report′ stack′ : List ℕ) : Type 0 where
-  pub no : s .solved ≡ false → Refuses w h c l b report b′ report′
-  pub yes : s .solved ≡ true → Moves w h c l b report entries stack count b′ report′ (s .entries) stack′ (s .stacked)
-
--- ---- the loop
-
-pub record Begins (w h : ℕ) (c : Card) (b report memo column answer stack : List ℕ) (count : ℕ) : Type 0 where
-  pub grid : Grid w h b
-  pub right : RightCard w h c
-  pub lines : Lines w h (stackOf stack count)
-  pub works : 64 ≤ length answer
-  pub copy : h ≤ length column
-  pub memos : 4160 ≤ length memo
-  pub stacked : 128 ≤ length stack
-  pub reports : room b ≤ length report
-
--- the answer, the grid and the report at a run's end
-pub record Ended (o : Outcome) (r : RunAnswer) (b′ report report′ : List ℕ) : Type 0 where
-  pub tells : replyOf r ≡ replyTo o
-  pub board : b′ ≡ boardOf o
-  pub reports : report′ ≡ sets report 0 (reportOf o)
-
--- ---- where a run begins
-
-abbrev pub InGrid : ℕ → ℕ → Start → Type 0
-InGrid w h Full = Unit {0}
-InGrid w h (Point x y) = (x .0 < w) × (y .0 < h)
-
-abbrev pub startCount : ℕ → ℕ → Start → ℕ
-startCount w h Full = w + h
-startCount w h (Point x y) = 2
-
-abbrev pub startStack : ℕ → ℕ → Start → List LinePosition
-startStack w h Full = fullStack w h
-startStack w h (Point x y) = pointStack (x .0) (y .0)
-
--- what the rules leave
-pub record Judged (w h : ℕ) (s : Start) (c : Card) (b report memo stack : List ℕ) : Type 0 where
-  pub grid : Grid w h b
-  pub right : RightCard w h c
-  pub inside : InGrid w h s
-  pub memos : 4160 ≤ length memo
-  pub stacked : 128 ≤ length stack
-  pub reports : room b ≤ length report
-
--- ---- binary cells
+use Rattle.rules.specs.Binary.{setOf, cellOf}
+use Rattle.rules.specs.Card.{Card}
+use Rattle.rules.specs.Run.{Outcome, boardOf, reportOf}
+use Rattle.run.specs.Ends.{replyOf, replyTo}
+use Rattle.run.specs.Steps.{Judged}
+use Rattle.run.specs.declared.Start.{Start}
+use Rattle.run.specs.declared.RunAnswer.{RunAnswer}
 
 -- the same of the cells' sets, with black colours for all blocks
 pub record Blackened (w h : ℕ) (s : Start) (c : Card) (colours grid report memo stack : List ℕ) : Type 0 where

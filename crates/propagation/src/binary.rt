@@ -1,19 +1,20 @@
 // Runs on a grid of binary cells, with a card of sizes. The grid is turned into sets where it lies, and back.
-use crate::RunAnswer;
-use crate::Start;
 use crate::judge::judge_binary;
-use crate::run::run_judged;
 use line::binary::cell_of;
 use line::binary::set_of;
 use rules::ColumnIndex;
 use rules::RowIndex;
 use rules::Verdict;
+use run::RunAnswer;
+use run::Start;
+use run::jobs::run_judged;
 ghost use mathlib.Core.Path.{_≡_};
 ghost use mathlib.Core.List.{map};
 ghost use lib.ListN.{replicate};
 ghost use Rattle.rules.specs.Binary.{setOf, cellOf};
 ghost use Rattle.rules.specs.Card.{blackCard};
-ghost use Rattle.propagation.specs.Calls.{replyOf, endOf, RunsBinary};
+ghost use Rattle.run.specs.Ends.{replyOf, endOf};
+ghost use Rattle.propagation.specs.Calls.{RunsBinary};
 ghost use Rattle.propagation.specs.Steps.{Blackened, EndedBinary};
 
 fn to_sets(grid: &mut [u32])

@@ -1,10 +1,10 @@
 // The rules of a run: those of its card, then binary cells, the point, and the room of the report.
-use crate::Start;
 use card::judge::judge_black_card;
 use card::judge::judge_card;
 use rules::Refusal;
 use rules::Verdict;
 use rules::judge::any_above;
+use run::Start;
 ghost use mathlib.Core.Path.{_≡_};
 ghost use mathlib.Core.Bool.{false};
 ghost use mathlib.Core.List.{map};

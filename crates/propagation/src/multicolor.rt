@@ -1,13 +1,14 @@
 // Runs on a grid of colour sets, with a coloured card.
-use crate::RunAnswer;
-use crate::Start;
 use crate::judge::judge;
-use crate::run::run_judged;
 use rules::ColumnIndex;
 use rules::RowIndex;
 use rules::Verdict;
+use run::RunAnswer;
+use run::Start;
+use run::jobs::run_judged;
 ghost use Rattle.card.specs.Steps.{cardOf};
-ghost use Rattle.propagation.specs.Calls.{replyOf, Runs};
+ghost use Rattle.run.specs.Ends.{replyOf};
+ghost use Rattle.propagation.specs.Calls.{Runs};
 
 fn run_from<'a, 'b>(
     width: usize,

@@ -5,7 +5,8 @@ use Rattle.rules.specs.Card.{Card, blackCard}
 use Rattle.rules.specs.Refusal.{verdict}
 use Rattle.rules.specs.declared.Verdict.the-variants.{Fine}
 use Rattle.propagation.specs.Calls.{binaryRules}
-use Rattle.propagation.proofs.Told.{judged-binary, told-fits, ran-refused, ran-ended}
+use Rattle.propagation.proofs.Told.{judged-binary, ran-refused, ran-ended}
+use Rattle.run.proofs.Started.{told-fits}
 use borrow.Author.Needs.{needs}
 use Rattle.propagation.proofs.binary.run_from.Statement.{statement}
 use Rattle.propagation.proofs.binary.run_from.Tie as tie

@@ -6,7 +6,8 @@ use Rattle.rules.specs.Refusal.{verdict}
 use Rattle.rules.specs.declared.Verdict.the-variants.{Fine}
 use Rattle.card.specs.Steps.{cardOf}
 use Rattle.propagation.specs.Calls.{runRules}
-use Rattle.propagation.proofs.Told.{judged, told-fits, ran-refused, ran-ended}
+use Rattle.propagation.proofs.Told.{judged, ran-refused, ran-ended}
+use Rattle.run.proofs.Started.{told-fits}
 use borrow.Author.Needs.{needs}
 use Rattle.propagation.proofs.multicolor.run_from.Statement.{statement}
 use Rattle.propagation.proofs.multicolor.run_from.Tie as tie

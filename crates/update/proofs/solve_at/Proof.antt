@@ -1,16 +1,14 @@
--- `update::solve_at` meets its contract: a row and a copied column are the line's cells.
+-- `solve_at` meets its contract: a row and a copied column are the line's cells.
 use Prim.Native.Nat.{_<_}
 use lib.ListN.{length, take}
-use lib.Seq.{length-sets}
 use mathlib.Core.Path.{_≡_, sym, ap, _∙_}
-use native.Mathlib.Omega.{arith}
 use Rattle.rules.specs.Board.{lineOf, column}
 use Rattle.rules.proofs.Boards.{length-line}
 use Rattle.grid.proofs.Rows.{row-in, row-line, column-copied}
-use Rattle.propagation.proofs.Updating.{solvable, roomy-cells, attempted-line}
+use Rattle.update.proofs.Updating.{solvable, roomy-cells, attempted-line}
 use borrow.Author.Needs.{needs}
-use Rattle.propagation.proofs.update.solve_at.Statement.{statement}
-use Rattle.propagation.proofs.update.solve_at.Tie as tie
+use Rattle.update.proofs.solve_at.Statement.{statement}
+use Rattle.update.proofs.solve_at.Tie as tie
 
 enum-known-line : tie.Need-enum-known-line
 enum-known-line c = search needs
@@ -69,7 +67,7 @@ column-is c =
     let args = start .args in
     let line2 = c .before .before .before .line2 in
     rw (line2 .given .1) (column-copied (pre .grid) (line2 .given .0 .0 .0) (args .column .now) (c .copy-column .last .1 .1 .1 .1 .0) (pre .copy)
-        (c .copy-column .ensures))
+    (c .copy-column .ensures))
 
 high : (c : tie.After-copy-column) → length
     (take (c .before .before .before .before .before .before .before .before .before .before .before .before .args .height)
@@ -81,7 +79,7 @@ high c =
     let args = start .args in
     let line2 = c .before .before .before .line2 in
     ap length (column-copied (pre .grid) (line2 .given .0 .0 .0) (args .column .now) (c .copy-column .last .1 .1 .1 .1 .0) (pre .copy)
-        (c .copy-column .ensures)) ∙ length-line (args .width) (args .height) (args .grid .now) (column (line2 .given .0 .0 .0))
+    (c .copy-column .ensures)) ∙ length-line (args .width) (args .height) (args .grid .now) (column (line2 .given .0 .0 .0))
 
 copy-column-requires : tie.Need-copy-column-requires
 copy-column-requires c κs =
@@ -98,11 +96,13 @@ slice-aggregate-solve-cells c = sym (high (c .before .before .before))
 solve-cells-requires-2 : tie.Need-solve-cells-requires-2
 solve-cells-requires-2 c κs =
     let start = c .before .before .before .before .before .before .before .before .before .before .before .before .before .before .before .before
-        .before .before in
+    .before .before in
     let pre = start .pre in
-    let line2 = c .before .before .before .before .before .before .before .before .before .line2 in
-    (solvable pre _ (column-is (c .before .before .before .before .before .before)), rw (line2 .given .1) at
-        (roomy-cells pre _ (column-is (c .before .before .before .before .before .before))))
+    let line2 = c .before .before .before .before .before .before .before .before .before .line2 in (
+      solvable pre _ (column-is (c .before .before .before .before .before .before)),
+      rw (line2 .given .1) at
+          (roomy-cells pre _ (column-is (c .before .before .before .before .before .before))),
+    )
 
 same-length : tie.Need-same-length
 same-length c = search needs
@@ -118,7 +118,7 @@ returns c =
     let line = c .before .before .before .before .before .before .before .before .before .before .before .before .line in
     let solve-cells = c .before .before .before .before .before .before .solve-cells in
     attempted-line (line .given .1) (row-is (c .before .before .before .before .before .before .before .before .before .before))
-        (solve-cells .ensures)
+    (solve-cells .ensures)
 
 same-length-4 : tie.Need-same-length-4
 same-length-4 c = search needs
@@ -135,10 +135,10 @@ same-length-7 c = search needs
 returns-2 : tie.Need-returns-2
 returns-2 c =
     let line2 = c .before .before .before .before .before .before .before .before .before .before .before .before .before .before .before
-        .before .line2 in
+    .before .line2 in
     let solve-cells2 = c .before .before .before .before .before .before .solve-cells2 in
     attempted-line (line2 .given .1) (column-is
-        (c .before .before .before .before .before .before .before .before .before .before .before .before .before)) (solve-cells2 .ensures)
+    (c .before .before .before .before .before .before .before .before .before .before .before .before .before)) (solve-cells2 .ensures)
 
 pub solve-at-spec : {M : Type 1} → statement M
 solve-at-spec =

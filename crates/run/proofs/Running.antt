@@ -1,8 +1,7 @@
 -- The loop of a run: what is left to run gives the whole.
-use mathlib.Core.Path.{_≡_, refl, sym, ap, ap₂, _∙_, subst}
-use mathlib.Core.List.{List, [], _∷_, _++_, map, List·Memᴰ, List·Memᴰ·head}
-use mathlib.Core.Option.{none, some}
-use Prim.Native.Nat.{ℕ, suc, _+_, _*_, _-_, _≤_, _<_}
+use mathlib.Core.Path.{_≡_, refl, sym, ap, _∙_, subst}
+use mathlib.Core.List.{List, [], _∷_, _++_, List·Memᴰ, List·Memᴰ·head}
+use Prim.Native.Nat.{ℕ, suc, _+_, _-_, _≤_, _<_}
 use native.Mathlib.Numerals.{add-one}
 use native.Mathlib.Omega.{arith}
 use lib.ListN.{length, getD, length-map}
@@ -24,9 +23,10 @@ use Rattle.stack.proofs.Onces.{lines-fit, lines-push, lines-rest}
 use Rattle.stack.proofs.Coded.{length-stack}
 use Rattle.card.specs.Steps.{RightCard}
 use Rattle.card.proofs.Clued.{clue-legal}
-use Rattle.propagation.specs.declared.RunAnswer.the-variants.{Done, Unsolvable}
-use Rattle.propagation.specs.Steps.{Ready, Refuses, Moves, Begins, Ended}
-use Rattle.propagation.proofs.Updating.{sized}
+use Rattle.run.specs.declared.RunAnswer.the-variants.{Done, Unsolvable}
+use Rattle.update.specs.Steps.{Ready, Refuses, Moves}
+use Rattle.run.specs.Steps.{Begins, Ended}
+use Rattle.grid.proofs.Rows.{sized}
 
 module _ (w h : ℕ) (c : Card) (b₀ report₀ stack₀ : List ℕ) (n₀ : ℕ) where
   abbrev pub whole : Outcome

@@ -1,11 +1,11 @@
--- `run::run_judged` meets its contract.
+-- `jobs::run_judged` meets its contract.
 use native.Mathlib.Omega.{arith}
 use Rattle.rules.specs.Card.{Card}
 use Rattle.card.specs.Steps.{cardOf}
-use Rattle.propagation.proofs.Told.{begins, ended}
+use Rattle.run.proofs.Started.{begins, ended}
 use borrow.Author.Needs.{needs}
-use Rattle.propagation.proofs.run.run_judged.Statement.{statement}
-use Rattle.propagation.proofs.run.run_judged.Tie as tie
+use Rattle.run.proofs.jobs.run_judged.Statement.{statement}
+use Rattle.run.proofs.jobs.run_judged.Tie as tie
 
 set-up-requires : tie.Need-set-up-requires
 set-up-requires c κs = search needs

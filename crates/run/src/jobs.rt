@@ -1,11 +1,11 @@
 // The loop of a run: lines are taken from the stack until it is empty or a line is refused.
 use crate::RunAnswer;
 use crate::Start;
-use crate::update::update_line;
 use rules::LinePosition;
 use stack::codes::line_of;
 use stack::order::full_order;
 use stack::order::point_order;
+use update::update_line;
 ghost use mathlib.Core.Path.{_≡_};
 ghost use mathlib.Core.List.{[]};
 ghost use Prim.Native.Nat.{_+_, _≤_};
@@ -15,8 +15,8 @@ ghost use Rattle.rules.specs.Card.{clueOf, solveStraight};
 ghost use Rattle.rules.specs.Run.{room, run};
 ghost use Rattle.stack.specs.Stack.{stackOf};
 ghost use Rattle.card.specs.Steps.{cardOf};
-ghost use Rattle.propagation.specs.Calls.{endOf};
-ghost use Rattle.propagation.specs.Steps.{InGrid, startCount, startStack, Begins, Ended, Judged};
+ghost use Rattle.run.specs.Ends.{endOf};
+ghost use Rattle.run.specs.Steps.{InGrid, startCount, startStack, Begins, Ended, Judged};
 
 fn len_of(width: usize, height: usize, line: LinePosition) -> usize
     ensures { λ r. ⌜ r ≡ len width height line ⌝ }
@@ -100,7 +100,7 @@ fn set_up(width: usize, height: usize, start: Start, stack: &mut [u32]) -> usize
 }
 
 // The run of what was judged. `column` is for a column's cells, `answer` for a line's.
-pub(crate) fn run_judged<'a, 'b>(
+pub fn run_judged<'a, 'b>(
     width: usize,
     height: usize,
     start: Start,

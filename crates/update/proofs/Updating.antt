@@ -1,18 +1,18 @@
 -- One line of a run: what each step asks follows from what is known before it, and what they tell makes the step.
 use mathlib.Core.Path.{_≡_, refl, sym, ap, _∙_, subst}
-use mathlib.Core.Bool.{Bool, true, false}
-use mathlib.Core.List.{List, _∷_, map, List·Memᴰ, List·Memᴰ·head}
-use mathlib.Core.Option.{Option, none, some}
+use mathlib.Core.Bool.{true, false}
+use mathlib.Core.List.{List, List·Memᴰ·head}
+use mathlib.Core.Option.{some}
 use Prim.Native.Nat.{ℕ, _+_, _*_, _≤_, _<_}
 use native.Mathlib.Omega.{arith}
 use borrow.Author.Tests.{eq-eqb}
 use lib.ListN.{length}
 use Rattle.rules.specs.Answer.{Exact, Answers}
 use Rattle.rules.specs.Binary.{lineAnswer}
-use Rattle.rules.specs.Block.{Block, blocks, coloured, illegal}
+use Rattle.rules.specs.Block.{Block, blocks, coloured}
 use Rattle.rules.specs.Board.{len, On, lineOf, store}
-use Rattle.rules.specs.Card.{Card, sum, clueOf, Straight, solveStraight}
-use Rattle.rules.specs.Run.{pushAll, changed, room}
+use Rattle.rules.specs.Card.{Card, clueOf, Straight, solveStraight}
+use Rattle.rules.specs.Run.{room}
 use Rattle.rules.specs.declared.LinePosition.{LinePosition}
 use Rattle.rules.specs.declared.LinePosition.the-variants.{Row, Column}
 use Rattle.rules.proofs.Boards.{length-line}
@@ -20,21 +20,19 @@ use Rattle.rules.proofs.Blocks.{length-blocks, legal-test}
 use Rattle.rules.proofs.Cards.{straight-proper, straight-right}
 use Rattle.rules.proofs.Runs.{room-step}
 use Rattle.line.specs.Steps.{Ready as Solvable, outcome}
-use Rattle.grid.specs.Grid.{Grid, changes, news, Storable, Stored}
+use Rattle.grid.specs.Grid.{Grid, changes, Storable, Stored}
+use Rattle.grid.proofs.Rows.{sized}
 use Rattle.grid.proofs.Storing.{len-most}
-use Rattle.stack.specs.Stack.{stackOf, Lines, Pushable}
+use Rattle.stack.specs.Stack.{stackOf, Pushable}
 use Rattle.stack.proofs.Onces.{lines-space}
-use Rattle.card.specs.Steps.{cardOf, partOf, Counts, Direction, RightCard}
+use Rattle.card.specs.Steps.{Counts}
 use Rattle.card.proofs.Clued.{sizesAt, coloursAt, clue-is, clue-pairs, clue-few, clue-legal}
-use Rattle.propagation.specs.declared.update.Attempt.{Attempt}
-use Rattle.propagation.specs.Steps.{Roomy, Tried, Attempted, Ready, Refuses, Moves}
+use Rattle.update.specs.declared.Attempt.{Attempt}
+use Rattle.update.specs.Steps.{Roomy, Tried, Attempted, Ready, Refuses, Moves}
 
 len-some : {w h : ℕ} {b : List ℕ} → Grid w h b → (l : LinePosition) → 0 < len w h l
 len-some g (Row y) = g .wide
 len-some g (Column x) = g .high
-
-pub sized : {w h : ℕ} {b : List ℕ} → Grid w h b → length b ≡ h * w
-sized g = omega (arith, g .size)
 
 -- ---- solving a line's cells
 

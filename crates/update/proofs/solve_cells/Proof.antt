@@ -1,12 +1,12 @@
--- `update::solve_cells` meets its contract.
-use mathlib.Core.Path.{_≡_, sym, ap, _∙_}
+-- `solve_cells` meets its contract.
+use mathlib.Core.Path.{sym, ap, _∙_}
 use borrow.Author.Tests.{not-true, not-false}
 use Rattle.rules.proofs.Tests.{true-not-false}
 use Rattle.line.specs.Steps.{outcome}
-use Rattle.propagation.proofs.Updating.{pushable}
+use Rattle.update.proofs.Updating.{pushable}
 use borrow.Author.Needs.{needs}
-use Rattle.propagation.proofs.update.solve_cells.Statement.{statement}
-use Rattle.propagation.proofs.update.solve_cells.Tie as tie
+use Rattle.update.proofs.solve_cells.Statement.{statement}
+use Rattle.update.proofs.solve_cells.Tie as tie
 
 solve-legal-requires : tie.Need-solve-legal-requires
 solve-legal-requires c κs = search needs

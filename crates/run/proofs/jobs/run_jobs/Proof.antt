@@ -1,6 +1,6 @@
--- `run::run_jobs` meets its contract: what is left to run gives the whole.
+-- `jobs::run_jobs` meets its contract: what is left to run gives the whole.
 use Prim.Native.Nat.{suc, _+_, _-_, _≤_}
-use lib.ListN.{length, take}
+use lib.ListN.{length}
 use lib.Seq.{length-take-le, length-front}
 use mathlib.Core.Path.{_≡_, refl, sym, _∙_}
 use native.Mathlib.Omega.{arith}
@@ -8,10 +8,10 @@ use borrow.Author.Tests.{not-true, not-false}
 use Rattle.rules.specs.Run.{room}
 use Rattle.grid.proofs.Storing.{len-most}
 use Rattle.card.specs.Steps.{cardOf}
-use Rattle.propagation.proofs.Running.{Going, run-starts, long, few, run-stops, run-ready, run-refuses, run-less, run-moves}
+use Rattle.run.proofs.Running.{Going, run-starts, long, few, run-stops, run-ready, run-refuses, run-less, run-moves}
 use borrow.Author.Needs.{needs}
-use Rattle.propagation.proofs.run.run_jobs.Statement.{statement}
-use Rattle.propagation.proofs.run.run_jobs.Tie as tie
+use Rattle.run.proofs.jobs.run_jobs.Statement.{statement}
+use Rattle.run.proofs.jobs.run_jobs.Tie as tie
 
 abbrev Inv-loop : tie.InvT-loop
 Inv-loop width height grid₀ row-counts row-sizes row-colours column-counts column-sizes column-colours report₀ memo₀ column₀ answer₀ stack₀ count

@@ -6,19 +6,18 @@ use grid::store::store_line;
 use line::multicolor::solve_legal;
 use rules::LinePosition;
 use stack::push::push_changed;
-ghost use mathlib.Core.Path.{_≡_};
 ghost use lib.ListN.{length};
 ghost use Rattle.rules.specs.Block.{blocks, coloured};
 ghost use Rattle.rules.specs.Board.{lineOf};
 ghost use Rattle.card.specs.Steps.{cardOf};
 ghost use Rattle.line.specs.Steps.{Ready as Solvable};
-ghost use Rattle.propagation.specs.Steps.{Roomy, Tried, Attempted, Ready, Updated};
+ghost use Rattle.update.specs.Steps.{Roomy, Tried, Attempted, Ready, Updated};
 
 // What became of a line: whether it was solved, and then how many lines are on the stack and entries in the report.
-pub(crate) struct Step {
-    pub(crate) solved: bool,
-    pub(crate) stacked: usize,
-    pub(crate) entries: usize,
+pub struct Step {
+    pub solved: bool,
+    pub stacked: usize,
+    pub entries: usize,
 }
 
 // Whether a line was solved, and then how many lines are on the stack.
@@ -99,7 +98,7 @@ fn solve_at(
 }
 
 // Solves a line of the grid, pushes the lines that cross its changes, stores it and reports what changed.
-pub(crate) fn update_line<'a, 'b>(
+pub fn update_line<'a, 'b>(
     width: usize,
     height: usize,
     grid: &mut [u32],

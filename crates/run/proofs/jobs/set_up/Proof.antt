@@ -1,8 +1,8 @@
--- `run::set_up` meets its contract.
+-- `jobs::set_up` meets its contract.
 use native.Mathlib.Omega.{arith}
 use borrow.Author.Needs.{needs}
-use Rattle.propagation.proofs.run.set_up.Statement.{statement}
-use Rattle.propagation.proofs.run.set_up.Tie as tie
+use Rattle.run.proofs.jobs.set_up.Statement.{statement}
+use Rattle.run.proofs.jobs.set_up.Tie as tie
 
 enum-told : tie.Need-enum-told
 enum-told c = search needs

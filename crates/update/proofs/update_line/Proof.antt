@@ -1,11 +1,11 @@
--- `update::update_line` meets its contract.
-use mathlib.Core.Path.{_≡_, refl, sym}
+-- `update_line` meets its contract.
+use mathlib.Core.Path.{refl, sym}
 use borrow.Author.Tests.{not-true, not-false}
 use Rattle.rules.proofs.Tests.{true-not-false}
-use Rattle.propagation.proofs.Updating.{parts-asked, tried, refuses, storable, moves}
+use Rattle.update.proofs.Updating.{parts-asked, tried, refuses, storable, moves}
 use borrow.Author.Needs.{needs}
-use Rattle.propagation.proofs.update.update_line.Statement.{statement}
-use Rattle.propagation.proofs.update.update_line.Tie as tie
+use Rattle.update.proofs.update_line.Statement.{statement}
+use Rattle.update.proofs.update_line.Tie as tie
 
 line-part-requires : tie.Need-line-part-requires
 line-part-requires c κs =
