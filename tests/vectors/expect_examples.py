@@ -7,11 +7,12 @@ import sys
 
 import example_blocks
 import example_lines
+import example_runs
 
 
 def main():
     what = sys.argv[1]
-    for layer in example_blocks, example_lines:
+    for layer in example_blocks, example_lines, example_runs:
         for item in layer.all_cases():
             if isinstance(item, str):
                 if what == "stdin":

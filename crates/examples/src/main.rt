@@ -5,6 +5,7 @@ mod answers;
 mod blocks;
 mod clues;
 mod lines;
+mod runs;
 
 use vectors::reader;
 use vectors::reader::Reader;
@@ -17,6 +18,7 @@ fn show_call(call: u64, buffer: &mut [u8], reader: Reader) -> Reader {
         1..=5 | 8..=11 => blocks::show(call, buffer, reader),
         6 | 7 | 12 | 13 => clues::show(call, buffer, reader),
         14 | 15 => lines::show(call, buffer, reader),
+        16..=19 => runs::show(call, buffer, reader),
         _ => reader::fail(reader),
     }
 }

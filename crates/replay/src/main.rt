@@ -3,6 +3,7 @@
 mod blocks;
 mod clues;
 mod lines;
+mod runs;
 
 use vectors::lists::Found;
 use vectors::reader;
@@ -18,11 +19,11 @@ struct Turn {
     reader: Reader,
 }
 
-// One count for each call's number, from 0 to 15.
-fn make_counts() -> [u64; 16]
-    ensures { λ r. ⌜ 16 ≡ length r ⌝ }
+// One count for each call's number, from 0 to 19.
+fn make_counts() -> [u64; 20]
+    ensures { λ r. ⌜ 20 ≡ length r ⌝ }
 {
-    [0; 16]
+    [0; 20]
 }
 
 // Replays one case by the call's number.
@@ -31,6 +32,7 @@ fn replay_call(case: u64, call: u64, buffer: &mut [u8], reader: Reader) -> Found
         1..=5 | 8..=11 => blocks::replay(call, buffer, reader),
         6 | 7 | 12 | 13 => clues::replay(call, buffer, reader),
         14 | 15 => lines::replay(case, call, buffer, reader),
+        16..=19 => runs::replay(case, call, buffer, reader),
         _ => Found {
             differing: 1,
             reader: reader::fail(reader),
@@ -111,6 +113,13 @@ fn write_lines(cases: &[u64], differing: &[u64]) {
     report::write_call(b"binary::solve", 15, cases, differing);
 }
 
+fn write_runs(cases: &[u64], differing: &[u64]) {
+    report::write_call(b"multicolor::run", 16, cases, differing);
+    report::write_call(b"multicolor::run_point", 17, cases, differing);
+    report::write_call(b"binary::run", 18, cases, differing);
+    report::write_call(b"binary::run_point", 19, cases, differing);
+}
+
 fn main() {
     let mut buffer = io::large_buffer();
     let mut cases = make_counts();
@@ -119,5 +128,6 @@ fn main() {
     write_coloured(&cases, &differing);
     write_binary(&cases, &differing);
     write_lines(&cases, &differing);
+    write_runs(&cases, &differing);
     report::write_end(&cases, &differing, end.faulty);
 }

@@ -61,6 +61,20 @@ fn make_wide() -> [u64; 80]
     [0; 80]
 }
 
+// Room for the report of any run of the largest grid, and 64 to spare.
+fn make_long() -> [u32; 127040]
+    ensures { λ r. ⌜ 127040 ≡ length r ⌝ }
+{
+    [0; 127040]
+}
+
+// Room for the stack of any run, and 64 to spare.
+fn make_stack() -> [u32; 192]
+    ensures { λ r. ⌜ 192 ≡ length r ⌝ }
+{
+    [0; 192]
+}
+
 // What a filled list holds at an index: a large number that differs from its neighbours.
 fn filler(index: usize) -> u32
     ensures { λ r. ⌜ r ≡ fillerAt index ⌝ }
@@ -109,6 +123,33 @@ pub fn make_filled_wide() -> [u64; 80]
 {
     let mut list = make_wide();
     fill_wide(&mut list);
+    list
+}
+
+// A list as `make_long` makes it, filled.
+pub fn make_filled_long() -> [u32; 127040]
+    ensures { λ r. ⌜ 127040 ≡ length r ⌝ }
+{
+    let mut list = make_long();
+    fill(&mut list);
+    list
+}
+
+// Fills a list with what a call could take for its own numbers of lines: those below 256 in turn. The first of them goes by `turn`.
+fn fill_low(turn: usize, list: &mut [u32]) {
+    let mut i = 0;
+    while i < list.len() {
+        list[i] = ((turn % 256 + i % 256) % 256) as u32;
+        i += 1;
+    }
+}
+
+// A list as `make_stack` makes it, filled with low numbers.
+pub fn make_filled_stack(turn: usize) -> [u32; 192]
+    ensures { λ r. ⌜ 192 ≡ length r ⌝ }
+{
+    let mut list = make_stack();
+    fill_low(turn, &mut list);
     list
 }
 
@@ -236,10 +277,12 @@ pub fn read_picture(buffer: &mut [u8], reader: Reader, codes: &mut [u32]) -> Pic
     }
 }
 
-// What a list of `count` entries should hold at an index: the next number of the file, and after the last the filler.
-fn expect(buffer: &mut [u8], reader: Reader, index: usize, count: usize) -> Demanded {
-    if index < count {
-        return demand(buffer, reader, u64::MAX);
+// What a list with `count` entries from `first` on should hold at an index: the next number of the file, and elsewhere the filler.
+fn expect(buffer: &mut [u8], reader: Reader, first: usize, index: usize, count: usize) -> Demanded {
+    if index >= first {
+        if index - first < count {
+            return demand(buffer, reader, u64::MAX);
+        }
     }
     Demanded {
         value: widen(filler(index)),
@@ -268,8 +311,9 @@ pub fn compare_number(buffer: &mut [u8], found: Found, given: u64) -> Found {
     add_number(found, given, demand(buffer, reader, u64::MAX))
 }
 
-// Compares a list that was filled before a call with the list that comes next in the file: its entries, and the filler after them.
-pub fn compare(buffer: &mut [u8], found: Found, list: &[u32]) -> Found {
+// Compares a list that was filled, and lent to a call from `first` on, with the list that comes next in the file: its entries, and the
+// filler before and after them.
+pub fn compare_from(buffer: &mut [u8], found: Found, first: usize, list: &[u32]) -> Found {
     let reader = found.reader;
     let counted = demand(buffer, reader, list.len() as u64);
     let count = counted.value as usize;
@@ -283,9 +327,18 @@ pub fn compare(buffer: &mut [u8], found: Found, list: &[u32]) -> Found {
         let at = i;
         i += 1;
         let reader = found.reader;
-        found = add_number(found, widen(list[at]), expect(buffer, reader, at, count));
+        found = add_number(
+            found,
+            widen(list[at]),
+            expect(buffer, reader, first, at, count),
+        );
     }
     found
+}
+
+// The same of a list that was lent whole.
+pub fn compare(buffer: &mut [u8], found: Found, list: &[u32]) -> Found {
+    compare_from(buffer, found, 0, list)
 }
 
 pub fn compare_wide(buffer: &mut [u8], found: Found, list: &[u64]) -> Found {
@@ -302,7 +355,7 @@ pub fn compare_wide(buffer: &mut [u8], found: Found, list: &[u64]) -> Found {
         let at = i;
         i += 1;
         let reader = found.reader;
-        found = add_number(found, list[at], expect(buffer, reader, at, count));
+        found = add_number(found, list[at], expect(buffer, reader, 0, at, count));
     }
     found
 }

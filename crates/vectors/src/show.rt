@@ -6,8 +6,18 @@ use crate::lists::written_wide;
 use crate::report::write_number;
 use crate::report::write_text;
 use libc::STDOUT_FILENO;
+use std::num::wrapping_add_u64;
 ghost use Prim.Native.Nat.{_≤_, _<_};
 ghost use lib.ListN.{length};
+
+// The most entries of a report that are written one by one.
+const MOST_SHOWN: usize = 64;
+
+// The sum of a list's entries, and the sum of all sums up to an entry: together they tell the order too.
+struct Sums {
+    plain: u64,
+    running: u64,
+}
 
 // Where the run of equal entries that begins at `from` ends.
 fn end_run(list: &[u32], from: usize) -> usize
@@ -65,6 +75,39 @@ fn write_kept(count: usize) {
 pub fn write_left(name: &[u8], list: &[u32]) {
     let end = written(list);
     write_list(name, &list[..end]);
+    write_kept(list.len() - end);
+}
+
+fn sum_up(list: &[u32]) -> Sums {
+    let mut plain = 0;
+    let mut running = 0;
+    let mut i = 0;
+    while i < list.len() {
+        plain = wrapping_add_u64(plain, widen(list[i]));
+        running = wrapping_add_u64(running, plain);
+        i += 1;
+    }
+    Sums { plain, running }
+}
+
+// A name, how many entries a list has, and their sums.
+fn write_sums(name: &[u8], list: &[u32]) {
+    let sums = sum_up(list);
+    write_text(name);
+    write_number(list.len() as u64);
+    write_text(b" entries, sums");
+    write_number(sums.plain);
+    write_number(sums.running);
+}
+
+// The same as `write_left`, of a list that may be long: then its sums are written.
+pub fn write_left_long(name: &[u8], list: &[u32]) {
+    let end = written(list);
+    if end > MOST_SHOWN {
+        write_sums(name, &list[..end]);
+    } else {
+        write_list(name, &list[..end]);
+    }
     write_kept(list.len() - end);
 }
 

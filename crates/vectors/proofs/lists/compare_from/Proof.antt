@@ -1,16 +1,16 @@
--- `vectors::lists::compare` is safe and ends: the indexes that are left fall.
+-- `vectors::lists::compare_from` is safe and ends: the indexes that are left fall.
 use Prim.Native.Nat.{_≤_, _-_}
 use mathlib.Core.Path.{_≡_}
 use lib.ListN.{length}
 use borrow.Author.Needs.{needs}
-use Rattle.vectors.proofs.lists.compare.Statement.{statement}
-use Rattle.vectors.proofs.lists.compare.Tie as tie
+use Rattle.vectors.proofs.lists.compare_from.Statement.{statement}
+use Rattle.vectors.proofs.lists.compare_from.Tie as tie
 
 abbrev Inv-loop : tie.InvT-loop
-Inv-loop buffer₀ list count found₀ i₀ buffer found i = (i ≤ length list) × (length buffer ≡ length buffer₀)
+Inv-loop buffer₀ first list count found₀ i₀ buffer found i = (i ≤ length list) × (length buffer ≡ length buffer₀)
 
 abbrev μ-loop : tie.MeasureT-loop
-μ-loop buffer₀ list count found₀ i₀ buffer found i = length list - i
+μ-loop buffer₀ first list count found₀ i₀ buffer found i = length list - i
 
 demand-requires : tie.Need-demand-requires Inv-loop μ-loop
 demand-requires c κs = search needs
@@ -48,8 +48,8 @@ same-length c = search needs
 returns : tie.Need-returns Inv-loop μ-loop
 returns c = search needs
 
-pub compare-spec : {M : Type 1} → statement M
-compare-spec =
+pub compare-from-spec : {M : Type 1} → statement M
+compare-from-spec =
     tie.close
     (tie.spec
     Inv-loop
