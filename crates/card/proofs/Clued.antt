@@ -1,15 +1,14 @@
 -- A line's part of a right card is a legal clue.
-use mathlib.Core.Path.{_≡_, refl, sym, ap, _∙_}
-use mathlib.Core.Bool.{false}
+use mathlib.Core.Path.{_≡_, refl}
 use mathlib.Core.List.{List, [], _∷_}
 use Prim.Native.Nat.{ℕ, zero, suc, _≤_}
 use native.Mathlib.Omega.{arith}
 use lib.ListN.{length, getD, take, drop, length-take, length-drop}
-use Rattle.rules.specs.Block.{blocks, illegal, Legal, legal-none, legal-block}
+use Rattle.rules.specs.Block.{blocks, Legal, legal-none, legal-block}
 use Rattle.rules.specs.Card.{Card, sum, part, clueOf}
 use Rattle.rules.specs.declared.LinePosition.{LinePosition}
 use Rattle.rules.specs.declared.LinePosition.the-variants.{Row, Column}
-use Rattle.rules.proofs.Blocks.{test-legal, legal-test}
+use Rattle.rules.proofs.Blocks.{test-legal}
 use Rattle.card.specs.Steps.{partOf, Direction, RightCard}
 
 -- no colours, no blocks

@@ -1,5 +1,5 @@
 -- Counts and parts: what the rules leave of a card's lists, and that a line's part of them is a legal clue.
-use mathlib.Core.Path.{_≡_, refl, sym, ap, ap₂, _∙_, subst}
+use mathlib.Core.Path.{_≡_, refl, ap, ap₂, _∙_}
 use mathlib.Core.Bool.{Bool, true, false, not, _&&_}
 use mathlib.Core.List.{List, [], _∷_, _++_}
 use Prim.Native.Nat.{ℕ, zero, suc, _+_, _*_, _≤_, _<_}
@@ -11,19 +11,16 @@ use lib.Dec.{eqb, leb}
 use lib.ListN.{length, getD, take, length-map}
 use lib.Seq.{take-suc}
 use Rattle.rules.specs.Block.{blacks, blocks, illegal}
-use Rattle.rules.specs.Card.{Card, sum, part, clueOf}
+use Rattle.rules.specs.Card.{Card, sum, part}
 use Rattle.rules.specs.CardRules.{countsFit, roomFits, crowded, cardRules}
 use Rattle.rules.specs.Refusal.{Rule, _when_, verdict, sideRules}
-use Rattle.rules.specs.declared.LinePosition.{LinePosition}
-use Rattle.rules.specs.declared.LinePosition.the-variants.{Row, Column}
 use Rattle.rules.specs.declared.Refusal.the-variants.{BadRoom, TooManyBlocks, BadBlock}
 use Rattle.rules.specs.declared.Refusal.{Refusal}
 use Rattle.rules.specs.declared.Verdict.the-variants.{Fine, Bad}
 use Rattle.rules.proofs.Tests.{both-true}
 use Rattle.rules.proofs.Searching.{not-above}
-use Rattle.rules.proofs.Blocks.{test-legal, legal-test}
 use Rattle.rules.proofs.Verdicts.{append-bad, append-fine, append-parts, fine-cons, sides-fine}
-use Rattle.card.specs.Steps.{Counts, Direction, RightCard, countRules, legalRules, testRules}
+use Rattle.card.specs.Steps.{Counts, RightCard, countRules, legalRules, testRules}
 
 -- ---- sums
 

@@ -2,7 +2,7 @@
 use mathlib.Core.Path.{_≡_}
 use mathlib.Core.Bool.{Bool, false, not}
 use mathlib.Core.List.{List, [], _∷_, _++_}
-use Prim.Native.Nat.{ℕ, _≤_, _<_}
+use Prim.Native.Nat.{ℕ, _≤_}
 use lib.ListN.{length, getD}
 use Rattle.rules.specs.Block.{blocks, illegal}
 use Rattle.rules.specs.Card.{Card, sum, part}

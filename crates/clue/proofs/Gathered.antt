@@ -1,17 +1,12 @@
 -- Lines one after the other, and the rows and columns of a picture.
 use Prim.Native.Nat.{_≤_, _-_, ℕ, suc, _+_, _<_, _*_}
-use lib.ListN.{length, take, drop, getD, drop-of-length-le}
-use lib.Seq.{drop-cons, take-at}
-use mathlib.Core.List.{List, [], _∷_, _++_}
-use mathlib.Core.Path.{_≡_, sym, ap, _∙_, ap₂}
+use mathlib.Core.List.{List, [], _++_}
+use mathlib.Core.Path.{_≡_, sym, ap, _∙_}
 use native.Mathlib.Nat.{mul-le-mul-right}
 use native.Mathlib.Numerals.{add-one}
 use native.Mathlib.Omega.{arith}
-use Rattle.loops.proofs.Going.{Going, going-start, going-on, written-sets}
-use Rattle.loops.specs.Put.{Put}
-use Rattle.rules.proofs.Boards.{place-lt, length-line, getD-line, row-part}
+use Rattle.loops.proofs.Going.{Going, going-start, going-on}
 use Rattle.rules.specs.Block.{Block}
-use Rattle.rules.specs.Board.{row, column, lineOf}
 use Rattle.rules.specs.Card.{linesFrom, gathered}
 
 -- ---- lines one after the other

@@ -1,7 +1,7 @@
 -- The statements of the public calls, from what their parts tell.
 use Rattle.clue.specs.Calls.{binaryRules, colouredRules, codeRules, gridFits, gridRules, GridLists, GridColours}
 use Rattle.rules.specs.Clue.{badCode, mixedCode, clue}
-use Prim.Native.Nat.{_≤_, ℕ, zero, suc, _<_, _*_}
+use Prim.Native.Nat.{_≤_, ℕ, zero, suc, _*_}
 use borrow.Author.Tests.{not-false}
 use lib.Dec.{leb}
 use lib.ListN.{length, length-append, length-map}

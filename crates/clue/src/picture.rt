@@ -5,7 +5,6 @@ use grid::lines::copy_column;
 use grid::lines::row;
 use rules::ColumnIndex;
 use rules::RowIndex;
-ghost use mathlib.Core.Path.{_≡_};
 ghost use Prim.Native.Nat.{_+_, _*_, _≤_, _<_};
 ghost use lib.ListN.{length};
 ghost use Rattle.rules.specs.Card.{rowClues, columnClues, gathered};

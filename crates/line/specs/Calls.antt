@@ -1,14 +1,14 @@
 -- What the two public calls of this crate promise.
 use mathlib.Core.Path.{_≡_}
 use mathlib.Core.Bool.{Bool, _&&_}
-use mathlib.Core.List.{List, [], _∷_, _++_}
+use mathlib.Core.List.{List, _++_}
 use mathlib.Core.Option.{Option, none, some}
 use Prim.Native.Nat.{ℕ}
 use lib.Dec.{eqb, leb}
 use lib.ListN.{length}
 use Rattle.rules.specs.Block.{Lent, binary}
 use Rattle.rules.specs.Binary.{lineAnswer, binaryAnswer}
-use Rattle.rules.specs.Refusal.{refusalNumber, Rule, _when_, verdict, lengthRules, blockRules, cellRules}
+use Rattle.rules.specs.Refusal.{refusalNumber, Rule, verdict, lengthRules, blockRules, cellRules}
 use Rattle.rules.specs.declared.Refusal.{Refusal}
 use Rattle.rules.specs.declared.Verdict.{Verdict}
 use Rattle.rules.specs.declared.Verdict.the-variants.{Fine, Bad}

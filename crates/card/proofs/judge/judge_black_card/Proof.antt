@@ -1,6 +1,5 @@
 -- `judge::judge_black_card` meets its contract: one rule after the other.
-use lib.ListN.{length, length-map}
-use mathlib.Core.Path.{_≡_, sym, ap, ap₂, _∙_}
+use mathlib.Core.Path.{sym, ap, ap₂, _∙_}
 use Rattle.rules.specs.Block.{illegal}
 use Rattle.rules.specs.Card.{Card, blackCard}
 use Rattle.rules.specs.Refusal.{verdict}

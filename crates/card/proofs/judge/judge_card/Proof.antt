@@ -5,7 +5,7 @@ use Rattle.rules.specs.Refusal.{verdict}
 use Rattle.rules.specs.declared.Verdict.the-variants.{Fine}
 use Rattle.rules.specs.Card.{Card}
 use Rattle.card.specs.Steps.{cardOf, legalRules}
-use Rattle.card.proofs.Counted.{Known, counting, counts-known, card-bad, card-fine}
+use Rattle.card.proofs.Counted.{counting, counts-known, card-bad, card-fine}
 use borrow.Author.Needs.{needs}
 use Rattle.card.proofs.judge.judge_card.Statement.{statement}
 use Rattle.card.proofs.judge.judge_card.Tie as tie

@@ -1,6 +1,5 @@
 -- `judge::judge_tests` meets its contract, by its tests.
 use borrow.Author.Tests.{not-true, not-false}
-use borrow.Author.Needs.{needs}
 use Rattle.card.proofs.judge.judge_tests.Statement.{statement}
 use Rattle.card.proofs.judge.judge_tests.Tie as tie
 

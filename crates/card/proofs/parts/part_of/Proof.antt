@@ -1,7 +1,7 @@
 -- `parts::part_of` meets its contract.
 use Prim.Native.Nat.{ℕ, _+_, _-_, _≤_}
 use lib.ListN.{length, getD}
-use mathlib.Core.Path.{_≡_, sym}
+use mathlib.Core.Path.{_≡_}
 use native.Mathlib.Omega.{arith}
 use Rattle.card.proofs.Counted.{sum-part}
 use borrow.Author.Needs.{needs}

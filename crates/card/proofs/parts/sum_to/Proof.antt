@@ -1,5 +1,5 @@
 -- `parts::sum_to` meets its contract: the counts before j are summed.
-use Prim.Native.Nat.{_+_, _-_, _*_, _≤_}
+use Prim.Native.Nat.{_-_, _*_, _≤_}
 use lib.ListN.{take}
 use mathlib.Core.Path.{_≡_, ap}
 use native.Mathlib.Omega.{arith}

@@ -1,6 +1,4 @@
 -- `store::cell_of` meets its contract.
-use Prim.Native.Nat.{_+_, _*_, _≤_, _<_}
-use mathlib.Core.Path.{_≡_}
 use native.Mathlib.Omega.{arith}
 use Rattle.grid.proofs.Storing.{product-small}
 use borrow.Author.Needs.{needs}

@@ -1,10 +1,8 @@
 -- `store::store_line` meets its contract: what is left to store and to report gives the whole.
-use Prim.Native.Nat.{_+_, _-_, _≤_, _<_}
+use Prim.Native.Nat.{_-_, _<_}
 use mathlib.Core.Logic.{⊎-elim}
-use mathlib.Core.Path.{_≡_, refl}
 use native.Mathlib.Omega.{arith}
-use lib.ListN.{length, getD}
-use Rattle.rules.specs.Board.{place}
+use lib.ListN.{length}
 use Rattle.grid.proofs.Storing.{Storing, store-start, in-line, cell-in, cell-small, store-same, room-for, store-change, store-end}
 use Rattle.grid.proofs.store.store_line.Statement.{statement}
 use Rattle.grid.proofs.store.store_line.Tie as tie
