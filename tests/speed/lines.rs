@@ -13,6 +13,9 @@ use nonogrid::{
     utils::rc::ReadRc,
 };
 
+mod common;
+use common::{codes, rounds, Factors, Random, COLOURS, OPEN, SEED};
+
 extern "C" {
     fn sp_solve_line(
         cells: *const u32,
@@ -38,26 +41,8 @@ extern "C" {
     ) -> u32;
 }
 
-const SEED: u64 = 7303;
 const LINES: usize = 24;
 const REPEATS: usize = 8;
-const COLOURS: [u32; 4] = [2, 4, 8, 16];
-const OPEN: u32 = 31;
-
-/// SplitMix64.
-struct Random(u64);
-
-impl Random {
-    fn next(&mut self) -> u64 {
-        self.0 = self.0.wrapping_add(0x9e37_79b9_7f4a_7c15);
-        let a = (self.0 ^ (self.0 >> 30)).wrapping_mul(0xbf58_476d_1ce4_e5b9);
-        let b = (a ^ (a >> 27)).wrapping_mul(0x94d0_49bb_1331_11eb);
-        b ^ (b >> 31)
-    }
-    fn below(&mut self, n: usize) -> usize {
-        (self.next() % n as u64) as usize
-    }
-}
 
 /// A line as colour sets, with its blocks. A binary line has the colour 2 alone.
 struct Case {
@@ -223,18 +208,6 @@ fn nanoseconds(work: &mut impl FnMut()) -> f64 {
     start.elapsed().as_nanos() as f64 / (REPEATS * LINES) as f64
 }
 
-fn codes(cells: &[BinaryColor]) -> Vec<u32> {
-    cells
-        .iter()
-        .map(|c| match c {
-            BinaryColor::Undefined => 0,
-            BinaryColor::White => 1,
-            BinaryColor::Black => 2,
-            BinaryColor::BlackOrWhite => 3,
-        })
-        .collect()
-}
-
 /// One row: the crate's time and the port's, on the same lines.
 fn row(rounds: usize, kind: &str, shape: &str, known: &str, length: usize) -> (f64, f64) {
     let mut random = Random(SEED ^ ((length as u64) << 8));
@@ -276,13 +249,10 @@ fn row(rounds: usize, kind: &str, shape: &str, known: &str, length: usize) -> (f
 }
 
 fn main() {
-    let rounds = std::env::args()
-        .nth(1)
-        .map_or(100, |w| w.parse().expect("a number of rounds"));
+    let rounds = rounds();
     println!("| cells | kind | blocks | line | crate, ns | port, ns | crate / port |");
     println!("|---|---|---|---|---|---|---|");
-    let (mut logs, mut rows) = (0.0, 0);
-    let mut worst = f64::MAX;
+    let mut factors = Factors::default();
     for length in [8, 16, 32, 64] {
         for kind in ["binary", "4 colours"] {
             for shape in ["sparse", "dense", "long", "ones"] {
@@ -291,15 +261,17 @@ fn main() {
                         continue;
                     }
                     let (theirs, ours) = row(rounds, kind, shape, known, length);
-                    let ratio = theirs / ours;
-                    logs += ratio.ln();
-                    rows += 1;
-                    worst = worst.min(ratio);
-                    println!("| {length} | {kind} | {shape} | {known} | {theirs:.0} | {ours:.0} | {ratio:.2} |");
+                    let factor = factors.note(theirs, ours);
+                    println!("| {length} | {kind} | {shape} | {known} | {theirs:.0} | {ours:.0} | {factor:.2} |");
                 }
             }
         }
     }
     println!();
-    println!("Rows: {rows}. Geometric mean of the last column: {:.2}; least: {worst:.2}. Seed {SEED}, {LINES} lines a row, the least of {rounds} rounds.", (logs / rows as f64).exp());
+    println!(
+        "Rows: {}. Geometric mean of the last column: {:.2}; least: {:.2}. Seed {SEED}, {LINES} lines a row, the least of {rounds} rounds.",
+        factors.rows(),
+        factors.geometric_mean(),
+        factors.least(),
+    );
 }

@@ -15,7 +15,9 @@ rounds=${3:-150}
 . "$here/../oracle/lay_out.sh"
 
 (cd "$here/../.." && rt staticlib device) >&2
-lay_out "$crate" "$out/lines" lines "$here/lines.rs"
 export RUSTFLAGS="-L native=$here/../../target/staticlib -l static=device"
-(cd "$out/lines" && touch bin/lines.rs && cargo build --release --offline -j1) >&2
-"$out/lines/target/release/lines" "$rounds"
+for name in lines runs; do
+  lay_out "$crate" "$out/$name" "$name" "$here/$name.rs" "$here/common.rs"
+  (cd "$out/$name" && touch "bin/$name.rs" && cargo build --release --offline -j1) >&2
+done
+for name in lines runs; do "$out/$name/target/release/$name" "$rounds"; done
