@@ -1,5 +1,6 @@
 #!/bin/bash
-# Measures the stack that solving a line of 64 cells and a full run of 64 by 64 take, on x86-64 and, under qemu-user, on riscv64. tests/riscv/build.sh names the packages.
+# Measures the stack that solving a line of 64 cells and a full run of 64 by 64 take, on x86-64 and, under qemu-user, on riscv64.
+# tests/riscv/build.sh names the packages.
 # Usage: stack.sh OUT
 set -eu
 if [ $# -ne 1 ]; then

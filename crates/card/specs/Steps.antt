@@ -30,6 +30,7 @@ pub record Counts (counts list : List ℕ) : Type 0 where
 
 -- ---- the rules, by the outcomes of their tests
 
+-- rules 2 and 3
 abbrev pub testRules : Bool → Bool → Bool → Bool → Bool → List Rule
 testRules roomy rowsFit columnsFit rowsCrowded columnsCrowded =
     BadRoom when not roomy
@@ -45,6 +46,7 @@ countRules w h cells rc rows rowColours cc columns columnColours memo stack =
     sideRules w h
     ++ testRules (roomFits w h cells memo stack) (countsFit h rc rows rowColours) (countsFit w cc columns columnColours) (crowded rc) (crowded cc)
 
+-- rule 4
 abbrev pub legalRules : Bool → Bool → List Rule
 legalRules badRow badColumn = BadBlock when badRow ∷ BadBlock when badColumn ∷ []
 
@@ -58,6 +60,7 @@ pub record Direction (n : ℕ) (counts sizes colours : List ℕ) : Type 0 where
   pub few : (i : ℕ) → getD counts i 0 ≤ 64
   pub legal : illegal (blocks sizes colours) ≡ false
 
+-- and so are both directions'
 pub record RightCard (w h : ℕ) (c : Card) : Type 0 where
   pub rows : Direction h (c .rowCounts) (c .rowSizes) (c .rowColours)
   pub columns : Direction w (c .columnCounts) (c .columnSizes) (c .columnColours)

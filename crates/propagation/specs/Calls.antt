@@ -30,6 +30,7 @@ inGrid w h (Point x y) = ltb (x .0) w && ltb (y .0) h
 abbrev pub endRules : ℕ → ℕ → Start → ℕ → ℕ → List Rule
 endRules w h s report n = OutsideGrid when not (inGrid w h s) ∷ ShortReport when ltb report n ∷ []
 
+-- the rules of a run with coloured cells, and with binary ones
 abbrev pub runRules : ℕ → ℕ → Start → Card → List ℕ → ℕ → ℕ → ℕ → List Rule
 runRules w h s c grid report memo stack = cardRules w h (length grid) c memo stack ++ endRules w h s report (room grid)
 

@@ -17,6 +17,7 @@ pub record Blackened (w h : ℕ) (s : Start) (c : Card) (colours grid report mem
   pub judged : Judged w h s c (map setOf grid) report memo stack
   pub black : colours ≡ replicate 4096 2
 
+-- the answer, the grid of cells and the report at a run's end
 pub record EndedBinary (o : Outcome) (r : RunAnswer) (grid′ report report′ : List ℕ) : Type 0 where
   pub tells : replyOf r ≡ replyTo o
   pub board : grid′ ≡ map cellOf (boardOf o)

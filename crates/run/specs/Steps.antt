@@ -1,7 +1,6 @@
 -- What the private functions ask and tell. A reader of the public calls needs none of it.
 use mathlib.Core.Path.{_≡_}
 use mathlib.Core.List.{List}
-use mathlib.Core.Option.{none}
 use Prim.Native.Nat.{ℕ, _+_, _≤_, _<_}
 use lib.ListN.{length}
 use lib.Seq.{sets}
@@ -18,6 +17,7 @@ use Rattle.run.specs.declared.RunAnswer.{RunAnswer}
 
 -- ---- the loop
 
+-- what the loop is given: a judged card, board and report, and a stack of lines of the board
 pub record Begins (w h : ℕ) (c : Card) (b report memo column answer stack : List ℕ) (count : ℕ) : Type 0 where
   pub grid : Grid w h b
   pub right : RightCard w h c
@@ -36,10 +36,12 @@ pub record Ended (o : Outcome) (r : RunAnswer) (b′ report report′ : List ℕ
 
 -- ---- where a run begins
 
+-- the point, if there is one, lies in the grid
 abbrev pub InGrid : ℕ → ℕ → Start → Type 0
 InGrid w h Full = Unit {0}
 InGrid w h (Point x y) = (x .0 < w) × (y .0 < h)
 
+-- how many lines are on the stack, and which
 abbrev pub startCount : ℕ → ℕ → Start → ℕ
 startCount w h Full = w + h
 startCount w h (Point x y) = 2

@@ -67,6 +67,7 @@ pub record Moves (w h : ℕ) (c : Card) (l : LinePosition) (b report : List ℕ)
   pub stacks : stackOf stack′ count′ ≡ pushAll l (changes w h l cells b) (stackOf stack count)
   pub reports : Put report entries (news w h l cells b) entries′ report′
 
+-- one or the other, as the step tells
 pub record Updated (w h : ℕ) (c : Card) (l : LinePosition) (b report : List ℕ) (entries : ℕ) (stack : List ℕ) (count : ℕ) (s : Step)
     (b′ report′ stack′ : List ℕ) : Type 0 where
   pub no : s .solved ≡ false → Refuses w h c l b report b′ report′
