@@ -11,7 +11,7 @@ use Rattle.rules.specs.Binary.{setOf, cellOf}
 use Rattle.rules.specs.Board.{row, column, On, Stable, Picture, Widest, Unsettled}
 use Rattle.rules.specs.Card.{Card, clueOf, Straight, solveStraight}
 use Rattle.rules.specs.Refusal.{verdict}
-use Rattle.rules.specs.Run.{room, Outcome, done, refused, Runs, boardOf, reportOf, solvedOf, Ends}
+use Rattle.rules.specs.Run.{room, Outcome, done, refused, Runs, boardOf, reportOf, solvedOf, Ends, Alike}
 use Rattle.rules.specs.declared.LinePosition.{LinePosition}
 use Rattle.rules.specs.declared.ColumnIndex.{ColumnIndex}
 use Rattle.rules.specs.declared.RowIndex.{RowIndex}
@@ -22,7 +22,7 @@ use Rattle.rules.proofs.Cards.{straight-right, straight-full, straight-point}
 use Rattle.rules.proofs.Colours.{subset-num}
 use Rattle.rules.proofs.Replies.{by-checking}
 use Rattle.rules.proofs.RunSteps.{full-solved, point-solved}
-use Rattle.rules.proofs.Runs.{any-order}
+use Rattle.rules.proofs.Runs.{any-order, ends-alike}
 use Rattle.rules.proofs.Settled.{settled-cell, picture-settled, widest-one, widest-again, widest-mono, widest-picture}
 use Rattle.card.proofs.Clued.{clue-legal}
 use Rattle.run.specs.declared.Start.{Start}
@@ -145,19 +145,27 @@ module _ {w h : ℕ} {c : Card} {b₀ : List ℕ} {t : Reply} {b : List ℕ} (a 
 
 -- ---- what follows
 
+-- the order of lines cannot matter: a run by the rules, from all lines in any order, is done on the same board, or refused if the call was
+module _ {w h : ℕ} {c : Card} {b₀ : List ℕ} {t : Reply} {b : List ℕ} (a : Answered w h Full c b₀ t b) (st : List LinePosition)
+    (on : (l : LinePosition) → List·Memᴰ l st → On w h l) (all : (l : LinePosition) → On w h l → List·Memᴰ l st) (o : Outcome)
+    (d : Runs w h (solveStraight w h (clueOf c)) st b₀ [] 0 o) where
+  other-end : Passed t → Ends (Placed w h c) w h b₀ o
+  other-end p =
+      let j = ending a p .was in
+      any-order w h (proper j) (j .grid .wide) (j .grid .high) (solveStraight w h (clueOf c)) (straight-right w h (clueOf c) (clue-legal (j .right)))
+      st b₀ (sized (j .grid)) on all d
+
+  pub same-board : t .number ≡ 0 → Alike (done b [] 0) o
+  same-board n =
+      ends-alike w h (proper (ending a (inl n) .was)) b₀ (done b [] 0) o (full-widest a n) (other-end (inl n))
+
+  pub same-refusal : t .number ≡ 8 → (l : LinePosition) → Alike (refused l b [] 0) o
+  same-refusal n l =
+      ends-alike w h (proper (ending a (inr n) .was)) b₀ (refused l b [] 0) o (full-refused a (inr n) .0 n) (other-end (inr n))
+
 module _ {w h : ℕ} {c : Card} {b₀ : List ℕ} {t : Reply} {b : List ℕ} (a : Answered w h Full c b₀ t b) (n : t .number ≡ 0) where
   kind : (l : LinePosition) (p : List ℕ) → Placed w h c l p → Proper p
   kind = proper (ending a (inl n) .was)
-
-  -- the order of lines cannot matter: a run by the rules, from all lines in any order, ends on the same board
-  pub same-board : (st : List LinePosition) → ((l : LinePosition) → List·Memᴰ l st → On w h l) → ((l : LinePosition) → On w h l → List·Memᴰ l st)
-      → (b′ r : List ℕ) (k : ℕ) → Runs w h (solveStraight w h (clueOf c)) st b₀ [] 0 (done b′ r k) → b′ ≡ b
-  same-board st on all b′ r k d =
-      let j = ending a (inl n) .was in
-      widest-one w h kind
-      (any-order w h kind (j .grid .wide) (j .grid .high) (solveStraight w h (clueOf c)) (straight-right w h (clueOf c) (clue-legal (j .right)))
-      st b₀ (sized (j .grid)) on all d)
-      (full-widest a n)
 
   -- a second run changes nothing and reports nothing
   module _ {t′ : Reply} {b′ : List ℕ} (a′ : Answered w h Full c b t′ b′) (p : Passed t′) where
