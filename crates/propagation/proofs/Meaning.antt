@@ -21,7 +21,7 @@ use Rattle.rules.proofs.Binaries.{sets-back, sets-small}
 use Rattle.rules.proofs.Cards.{straight-right, straight-full, straight-point}
 use Rattle.rules.proofs.Colours.{subset-num}
 use Rattle.rules.proofs.Replies.{by-checking}
-use Rattle.rules.proofs.RunSteps.{full-solved, point-solved}
+use Rattle.rules.proofs.RunSteps.{runs-one, full-solved, point-solved}
 use Rattle.rules.proofs.Runs.{any-order, ends-alike}
 use Rattle.rules.proofs.Settled.{settled-cell, picture-settled, widest-one, widest-again, widest-mono, widest-picture}
 use Rattle.card.proofs.Clued.{clue-legal}
@@ -29,10 +29,10 @@ use Rattle.run.specs.declared.Start.{Start}
 use Rattle.run.specs.declared.Start.the-variants.{Full, Point}
 use Rattle.propagation.specs.Calls.{runRules, binaryRules, reply, Answered, coloured, binary, Passed}
 use Rattle.run.specs.Ends.{Reply, replyTo, endOf}
-use Rattle.run.specs.Steps.{startCount, Judged}
+use Rattle.run.specs.Steps.{startCount, startStack, Judged}
 use Rattle.grid.proofs.Rows.{sized}
 use Rattle.propagation.proofs.Told.{judged, judged-binary, cells-small}
-use Rattle.run.proofs.Started.{proper, spent}
+use Rattle.run.proofs.Started.{proper, spent, end-runs}
 
 -- the placements of a card's lines
 abbrev pub Placed : ℕ → ℕ → Card → LinePosition → List ℕ → Type 0
@@ -116,6 +116,15 @@ ends {w} {h} Full {c} {b} j f = straight-full w h (clueOf c) (clue-legal (j .rig
 ends {w} {h} (Point x y) {c} {b} j f =
     straight-point w h (clueOf c) (clue-legal (j .right)) (j .grid .wide) (j .grid .high) (x .0) (y .0) b (j .inside .0) (j .inside .1)
     (sized (j .grid)) f
+
+-- ---- the order rules
+
+-- what a call that passed the checks tells is what any end tells that the order rules give, from the stack that its run begins with
+pub by-the-rules : {w h : ℕ} {s : Start} {c : Card} {b₀ : List ℕ} {t : Reply} {b : List ℕ} → Answered w h s c b₀ t b → Passed t → {o : Outcome}
+    → Runs w h (solveStraight w h (clueOf c)) (startStack w h s) b₀ [] 0 o → t ≡ replyTo o
+by-the-rules {w} {h} {c = c} a p d =
+    let v = ending a p in
+    v .tells ∙ ap replyTo (runs-one w h (solveStraight w h (clueOf c)) (end-runs (v .was)) d)
 
 -- ---- demand 3
 

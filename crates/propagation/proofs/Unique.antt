@@ -1,25 +1,21 @@
 -- At most one answer satisfies each public call's statement, and none depends on what the memo and the stack held.
 use mathlib.Core.Path.{_≡_, sym, ap, ap₂, _∙_}
 use mathlib.Core.List.{List}
-use mathlib.Core.Option.{Option, some}
 use Prim.Native.Nat.{ℕ}
 use native.Mathlib.Omega.{arith}
 use lib.ListN.{length}
 use Rattle.rules.specs.Card.{Card}
 use Rattle.rules.specs.Refusal.{Rule, verdict}
 use Rattle.rules.specs.Run.{Outcome}
-use Rattle.rules.specs.declared.LinePosition.{LinePosition}
 use Rattle.rules.specs.declared.Refusal.{Refusal}
 use Rattle.rules.specs.declared.Verdict.the-variants.{Bad}
 use Rattle.rules.proofs.Replies.{same, number-one, by-checking}
+use Rattle.rules.proofs.RunSteps.{some-one}
 use Rattle.run.specs.declared.Start.{Start}
 use Rattle.run.specs.declared.RunAnswer.{RunAnswer}
 use Rattle.run.specs.declared.RunAnswer.the-variants.{Done, Unsolvable, Refused}
 use Rattle.propagation.specs.Calls.{runRules, binaryRules, Ran, Runs, RunsBinary}
 use Rattle.run.specs.Ends.{Reply, replyOf}
-
-line-one : {l k : LinePosition} → _≡_ {A = Option LinePosition} (some l) (some k) → l ≡ k
-line-one e = cc
 
 -- a reply tells its answer
 pub reply-one : (r s : RunAnswer) → replyOf r ≡ replyOf s → r ≡ s
@@ -28,7 +24,7 @@ reply-one (Done m n) (Unsolvable l m′ n′) e = absurd (let z : _≡_ {A = ℕ
 reply-one (Done m n) (Refused w) e = absurd (by-checking w .0 (sym (ap (λ t. t .number) e)))
 reply-one (Unsolvable l m n) (Done m′ n′) e = absurd (let z : _≡_ {A = ℕ} 8 0 = ap (λ t. t .number) e in omega arith)
 reply-one (Unsolvable l m n) (Unsolvable l′ m′ n′) e =
-    let p = line-one (ap (λ t. t .line) e) in
+    let p = some-one (ap (λ t. t .line) e) in
     ap₂ (λ k i. Unsolvable k i n) p (ap (λ t. t .entries) e) ∙ ap (λ j. Unsolvable l′ m′ j) (ap (λ t. t .lines) e)
 reply-one (Unsolvable l m n) (Refused w) e = absurd (by-checking w .1 (sym (ap (λ t. t .number) e)))
 reply-one (Refused w) (Done m n) e = absurd (by-checking w .0 (ap (λ t. t .number) e))

@@ -21,12 +21,6 @@ line-right bs n l = answer-for (placements bs n) (placements-exact bs n) l
 pub line-only : (bs : List Block) (l : List ℕ) (o : Option (List ℕ)) → Answers (Placement bs (length l)) l o → lineAnswer bs l ≡ o
 line-only bs l o a = answer-only (Placement bs (length l)) l (lineAnswer bs l) o (line-right bs (length l) l) a
 
-pub cell-set : (c : ℕ) → c ≤ 2 → cellOf (setOf c) ≡ c
-cell-set zero h = refl
-cell-set (suc zero) h = refl
-cell-set (suc (suc zero)) h = refl
-cell-set (suc (suc (suc n))) h = omega arith
-
 pub set-cell : (s : ℕ) → 0 < s → s ≤ 3 → setOf (cellOf s) ≡ s
 set-cell zero p h = omega arith
 set-cell (suc zero) p h = refl

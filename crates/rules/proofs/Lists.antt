@@ -3,6 +3,8 @@ use mathlib.Core.Path.{_≡_, refl, ap}
 use mathlib.Core.Bool.{Bool, true, false, _&&_}
 use mathlib.Core.Logic.{_⊎_, inl, inr, ⊎-elim}
 use mathlib.Core.List.{List, [], _∷_, map, reverse, reverseAux, List·Memᴰ, List·Memᴰ·head, List·Memᴰ·tail, List·Memᴰ·not-nil, List·Memᴰ·cases-cons}
+use Prim.Native.Nat.{ℕ, _+_, _-_}
+use native.Mathlib.Omega.{arith}
 use lib.Dec.{T}
 
 pub T-both : (a b : Bool) → T a → T b → T (a && b)
@@ -49,3 +51,7 @@ mem-reverse {l = l} m = mem-reverseAux l [] (inl m)
 
 pub reverse-mem : {A : Type 0} {k : A} (l : List A) → List·Memᴰ k (reverse l) → List·Memᴰ k l
 reverse-mem l m = ⊎-elim (λ n. n) (λ n. absurd (List·Memᴰ·not-nil n)) (reverseAux-mem l [] m)
+
+-- a part from a up to, not including, a + n has n entries
+pub part-count : (a n : ℕ) → a + n - a ≡ n
+part-count a n = omega arith

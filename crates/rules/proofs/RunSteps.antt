@@ -11,8 +11,8 @@ use Rattle.rules.specs.Run.{changed, pushAll, room, Outcome, done, refus
 none≢some : {m : List ℕ} → _≡_ {A = Option (List ℕ)} none (some m) → ⊥
 none≢some e = let z : _≡_ {A = ℕ} 0 1 = cc in omega arith
 
-some-inj : {m n : List ℕ} → _≡_ {A = Option (List ℕ)} (some m) (some n) → m ≡ n
-some-inj e = cc
+pub some-one : {A : Type 0} {a b : A} → _≡_ {A = Option A} (some a) (some b) → a ≡ b
+some-one e = cc
 
 module _ (w h : ℕ) (solve : LinePosition → List ℕ → Option (List ℕ)) where
   -- the steps of a run, for a loop that makes them: what is left to run gives the whole
@@ -69,4 +69,4 @@ module _ (w h : ℕ) (solve : LinePosition → List ℕ → Option (List ℕ)) w
       (subst
       (λ n. Runs w h solve (pushAll l (changed 0 (lineOf w h b l) n) st) (store w l n b)
       (r ++ map (place w l) (changed 0 (lineOf w h b l) n)) (suc k) u)
-      (some-inj (sym q′ ∙ q)) c′)
+      (some-one (sym q′ ∙ q)) c′)

@@ -155,26 +155,30 @@ module _ {P : LinePosition → List ℕ → Type 0} (w h : ℕ) (proper : (l : L
           let o = v .lines l (List·Memᴰ·head refl) in
           up _ _ _ _ (omega (arith, measure-step l st b m o a (v .size))) (next l st b m o a (v .size) v)
 
-  -- the bound on the steps cuts nothing off: the run is what the rules say
-  pub run-runs : {b₀ : List ℕ} (n : ℕ) (st : List LinePosition) (b r : List ℕ) (k : ℕ) → room b + length st ≤ n → Inv b₀ st b
-      → Runs w h solve st b r k (run w h solve n st b r k)
+  -- the bound on the steps cuts nothing off: from lines of the board, the run is what the rules say
+  pub run-runs : (n : ℕ) (st : List LinePosition) (b r : List ℕ) (k : ℕ) → room b + length st ≤ n → length b ≡ h * w
+      → ((l : LinePosition) → List·Memᴰ l st → On w h l) → Runs w h solve st b r k (run w h solve n st b r k)
   unfolding run
-  run-runs zero [] b r k e v = stops
-  run-runs zero (l ∷ st) b r k e v = absurd (omega arith)
-  run-runs (suc n) [] b r k e v = stops
-  run-runs {b₀} (suc n) (l ∷ st) b r k e v = go (solve l (lineOf w h b l)) refl (right l (lineOf w h b l)) (λ st′ b′ r′ k′. run-runs n st′ b′ r′ k′)
+  run-runs zero [] b r k e size on = stops
+  run-runs zero (l ∷ st) b r k e size on = absurd (omega arith)
+  run-runs (suc n) [] b r k e size on = stops
+  run-runs (suc n) (l ∷ st) b r k e size on =
+      go (solve l (lineOf w h b l)) refl (right l (lineOf w h b l)) (λ st′ b′ r′ k′. run-runs n st′ b′ r′ k′)
     where
+      here : On w h l
+      here = on l (List·Memᴰ·head refl)
+
       go : (a : Option (List ℕ)) → solve l (lineOf w h b l) ≡ a → Answers (P l) (lineOf w h b l) a
-          →
-          ((st′ : List LinePosition) (b′ r′ : List ℕ) (k′ : ℕ) → room b′ + length st′ ≤ n → Inv b₀ st′ b′ → Runs w h solve st′ b′ r′ k′
-          (run w h solve n st′ b′ r′ k′))
+          → ((st′ : List LinePosition) (b′ r′ : List ℕ) (k′ : ℕ) → room b′ + length st′ ≤ n → length b′ ≡ h * w
+          → ((l : LinePosition) → List·Memᴰ l st′ → On w h l) → Runs w h solve st′ b′ r′ k′ (run w h solve n st′ b′ r′ k′))
           → Runs w h solve (l ∷ st) b r k (onSome a (refused l b r k)
           (λ m. run w h solve n (pushAll l (changed 0 (lineOf w h b l) m) st) (store w l m b)
           (r ++ map (place w l) (changed 0 (lineOf w h b l) m)) (suc k)))
       go none q a up = refuses q
       go (some m) q a up =
-          let o = v .lines l (List·Memᴰ·head refl) in
-          steps m q (up _ _ _ _ (omega (arith, measure-step l st b m o a (v .size))) (next l st b m o a (v .size) v))
+          steps m q
+          (up _ _ _ _ (omega (arith, measure-step l st b m here a size)) (step-size w h proper l here b m a size)
+          (pushed-on l st b m here a size (λ k n. on k (List·Memᴰ·tail n))))
 
   -- every entry costs a colour: what is told and the room that is left are at most what was told before and the room at the start
   spent-le : (n : ℕ) (st : List LinePosition) (b r : List ℕ) (k : ℕ) → length b ≡ h * w → ((l : LinePosition) → List·Memᴰ l st → On w h l)
@@ -220,6 +224,14 @@ module _ {P : LinePosition → List ℕ → Type 0} (w h : ℕ) (proper : (l : L
   unfolding pointRun
   point-spent x y b p q size = omega (arith, spent-le (room b + 2) (pointStack x y) b [] 0 size (point-on x y p q))
 
+  pub full-runs : (b : List ℕ) → length b ≡ h * w → Runs w h solve (fullStack w h) b [] 0 (fullRun w h solve b)
+  unfolding fullRun
+  full-runs b size = run-runs (room b + (w + h)) (fullStack w h) b [] 0 (omega (arith, length-fullStack w h)) size (fullStack-on w h)
+
+  pub point-runs : (x y : ℕ) (b : List ℕ) → x < w → y < h → length b ≡ h * w → Runs w h solve (pointStack x y) b [] 0 (pointRun w h solve x y b)
+  unfolding pointRun
+  point-runs x y b p q size = run-runs (room b + 2) (pointStack x y) b [] 0 (omega arith) size (point-on x y p q)
+
   -- a run from any stack beside which every line is stable
   pub starts : (st : List LinePosition) (b : List ℕ) → length b ≡ h * w → ((l : LinePosition) → List·Memᴰ l st → On w h l)
       → ((l : LinePosition) → On w h l → List·Memᴰ l st ⊎ Stable P w h b l) → Inv b st b
@@ -247,7 +259,7 @@ module _ {P : LinePosition → List ℕ → Type 0} (w h : ℕ) (proper : (l : L
   any-order st b size on all {o} d =
       let v = starts st b size on (λ l q. inl (all l q)) in
       let n = room b + length st in
-      subst (Ends P w h b) (runs-one w h solve (run-runs n st b [] 0 (omega arith) v) d) (run-right n st b [] 0 (omega arith) v)
+      subst (Ends P w h b) (runs-one w h solve (run-runs n st b [] 0 (omega arith) size on) d) (run-right n st b [] 0 (omega arith) v)
 
 -- two runs from one start, each of which ends as demand 3 says, end alike
 pub ends-alike : {P : LinePosition → List ℕ → Type 0} (w h : ℕ) (proper : (l : LinePosition) (p : List ℕ) → P l p → Proper p)

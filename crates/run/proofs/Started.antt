@@ -6,10 +6,10 @@ use native.Mathlib.Omega.{arith}
 use lib.ListN.{length}
 use Rattle.rules.specs.Answer.{Proper}
 use Rattle.rules.specs.Card.{Card, clueOf, Straight, solveStraight}
-use Rattle.rules.specs.Run.{room, Outcome, run, fullRun, pointRun, boardOf, reportOf}
+use Rattle.rules.specs.Run.{room, Outcome, run, fullRun, pointRun, boardOf, reportOf, Runs}
 use Rattle.rules.specs.declared.LinePosition.{LinePosition}
 use Rattle.rules.proofs.Cards.{straight-proper, straight-right}
-use Rattle.rules.proofs.Runs.{full-spent, point-spent}
+use Rattle.rules.proofs.Runs.{full-runs, point-runs, full-spent, point-spent}
 use Rattle.stack.specs.Stack.{stackOf, Lines}
 use Rattle.stack.proofs.Onces.{lines-point, lines-full}
 use Rattle.card.proofs.Clued.{clue-legal}
@@ -41,6 +41,18 @@ module _ {w h : ℕ} {s : Start} {c : Card} {b report memo stack : List ℕ} (j 
 
   pub proper : (l : LinePosition) (p : List ℕ) → Straight w h (clueOf c) l p → Proper p
   proper = straight-proper w h (clueOf c) (clue-legal (j .right))
+
+  -- the end is the one that the order rules give
+  pub end-runs : Runs w h (solveStraight w h (clueOf c)) (startStack w h s) b [] 0 (endOf w h s c b)
+  end-runs = go s (j .inside)
+    where
+      go : (s : Start) → InGrid w h s → Runs w h (solveStraight w h (clueOf c)) (startStack w h s) b [] 0 (endOf w h s c b)
+      go Full i =
+          full-runs w h proper (j .grid .wide) (j .grid .high) (solveStraight w h (clueOf c))
+          (straight-right w h (clueOf c) (clue-legal (j .right))) b (sized (j .grid))
+      go (Point x y) i =
+          point-runs w h proper (j .grid .wide) (j .grid .high) (solveStraight w h (clueOf c))
+          (straight-right w h (clueOf c) (clue-legal (j .right))) (x .0) (y .0) b (i .0) (i .1) (sized (j .grid))
 
   -- every entry costs a colour
   pub spent : length (reportOf (endOf w h s c b)) + room (boardOf (endOf w h s c b)) ≤ room b

@@ -7,7 +7,7 @@ use Prim.Native.Nat.{ℕ, zero, suc, _+_, _-_, _≤_, _<_}
 use native.Mathlib.Omega.{arith}
 use borrow.Author.Tests.{lt-ltb, le-ltb, eq-eqb, ne-eqb, ltb-true, ltb-false}
 use lib.Dec.{eqb, ltb}
-use lib.ListN.{length, getD, set, length-set}
+use lib.ListN.{length, set, length-set}
 use lib.Seq.{getD-set-same, getD-set-other}
 use Rattle.rules.specs.declared.LinePosition.{LinePosition}
 use Rattle.rules.specs.declared.LinePosition.the-variants.{Row, Column}
@@ -50,10 +50,6 @@ cross-small (Column x) j h = h
 pub length-stack : (s : List ℕ) (n : ℕ) → length (stackOf s n) ≡ n
 length-stack s zero = refl
 length-stack s (suc n) = ap suc (length-stack s n)
-
--- the line on top, and those below
-pub stack-top : (s : List ℕ) (n : ℕ) → 0 < n → stackOf s n ≡ lineOfCode (getD s (n - 1) 0) ∷ stackOf s (n - 1)
-stack-top s n h = let e : n ≡ suc (n - 1) = omega arith in ap (stackOf s) e
 
 -- a store above the top changes nothing
 stack-set : (s : List ℕ) (i v n : ℕ) → n ≤ i → stackOf (set s i v) n ≡ stackOf s n

@@ -1,7 +1,7 @@
 -- `parts::part_of` meets its contract.
-use Prim.Native.Nat.{ℕ, _+_, _-_, _≤_}
+use Rattle.rules.proofs.Lists.{part-count}
+use Prim.Native.Nat.{_+_, _-_, _≤_}
 use lib.ListN.{length, getD}
-use mathlib.Core.Path.{_≡_}
 use native.Mathlib.Omega.{arith}
 use Rattle.card.proofs.Counted.{sum-part}
 use borrow.Author.Needs.{needs}
@@ -55,11 +55,8 @@ part-result-start c = search needs
 part-result-end : tie.Need-part-result-end
 part-result-end c = within c
 
-count-is : (a n : ℕ) → a + n - a ≡ n
-count-is a n = omega arith
-
 returns : tie.Need-returns
-returns c = simp (count-is, c .before .before .sum-to .ensures)
+returns c = simp (part-count, c .before .before .sum-to .ensures)
 
 pub part-of-spec : {M : Type 1} → statement M
 part-of-spec =

@@ -1,7 +1,6 @@
 -- `lines::row` meets its contract.
-use Prim.Native.Nat.{_-_, ℕ, _+_}
-use mathlib.Core.Path.{_≡_}
-use native.Mathlib.Omega.{arith}
+use Rattle.rules.proofs.Lists.{part-count}
+use Prim.Native.Nat.{_-_}
 use borrow.Author.Needs.{needs}
 use Rattle.grid.proofs.lines.row.Statement.{statement}
 use Rattle.grid.proofs.lines.row.Tie as tie
@@ -24,11 +23,8 @@ part-result-start c = search needs
 part-result-end : tie.Need-part-result-end
 part-result-end c = search needs
 
-count-is : (a n : ℕ) → a + n - a ≡ n
-count-is a n = omega arith
-
 returns : tie.Need-returns
-returns c = simp count-is
+returns c = simp part-count
 
 pub row-spec : {M : Type 1} → statement M
 row-spec =
