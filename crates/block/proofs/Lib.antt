@@ -1,6 +1,4 @@
 pub mod Packed
-pub mod Ranged
-pub mod Described
 pub mod Judged
 pub mod Told
 pub mod Unique

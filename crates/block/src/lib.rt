@@ -1,19 +1,5 @@
-// Blocks and their sums: the parts of multicolor.rs, binary.rs and base.rs that are about a line's blocks.
+// The partial sums of a line's blocks and their first cells: what multicolor.rs, binary.rs and base.rs say of the leftmost packing.
 // Each public call judges its input first, and a refusal changes nothing.
-mod base;
+pub mod base;
 pub mod binary;
 pub mod multicolor;
-
-use rules::Refusal;
-
-// The answer of a call for a number.
-pub enum NumberAnswer {
-    Number(u64),
-    Refused(Refusal),
-}
-
-// What the rules say of a line's length and blocks: the cells that the leftmost packing leaves, or the first rule that is broken.
-enum Space {
-    Slack(u64),
-    Tight(Refusal),
-}

@@ -68,6 +68,10 @@ sideRules w h = lengthRules w ++ lengthRules h
 abbrev pub countRules : Bool → ℕ → Bool → List Rule
 countRules paired count roomy = BadRoom when not paired ∷ BadRoom when not roomy ∷ TooManyBlocks when ltb 64 count ∷ []
 
+-- a list has room for an entry a block
+abbrev pub roomy : Lent → List ℕ → Bool
+roomy b out = leb (length (b .list)) (length out)
+
 -- the same of a line's blocks; 4: a block is not legal
 abbrev pub blockRules : Lent → Bool → List Rule
 blockRules b roomy = countRules (b .paired) (length (b .list)) roomy ++ (BadBlock when illegal (b .list) ∷ [])

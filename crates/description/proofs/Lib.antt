@@ -1,0 +1,4 @@
+pub mod Described
+pub mod Told
+pub mod Unique
+pub mod Order

@@ -1,0 +1,5 @@
+pub mod Ranged
+pub mod Judged
+pub mod Told
+pub mod Unique
+pub mod Order
