@@ -1,10 +1,3 @@
-pub mod Ints
-pub mod Added
-pub mod Fillings
-pub mod Pieces
-pub mod Stored
-pub mod Bridge
-pub mod Whole
 pub mod Told
 pub mod Unique
 pub mod Order

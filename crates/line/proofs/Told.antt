@@ -19,7 +19,8 @@ use Rattle.rules.proofs.Blocks.{length-blocks, black-blocks, black-lent}
 use Rattle.rules.proofs.Verdicts.{bad-not-fine, append-parts, length-fine, blocks-fine}
 use Rattle.loops.proofs.Stores.{take-sets}
 use Rattle.line.specs.Calls.{roomFor, lineRules, binaryRules, Solves}
-use Rattle.line.specs.Steps.{Solvable, Tried, Ready, Works, outcome}
+use Rattle.solver.specs.Steps.{Solvable, Tried, outcome}
+use Rattle.line.specs.Steps.{Ready, Works}
 
 -- ---- what a line that keeps the rules is
 

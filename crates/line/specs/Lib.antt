@@ -1,4 +1,3 @@
--- `Calls` is what the public calls promise. `Filling` and `Steps` are what the private functions say: a reader of the calls needs neither.
+-- `Calls` is what the public calls promise; `Steps` is what the private functions say.
 pub mod Calls
-pub mod Filling
 pub mod Steps

@@ -1,8 +1,8 @@
 // A binary line: its cells are 0, 1 or 2, its blocks a list of sizes. The coloured solver does the work, on the cells' sets and black blocks.
 use crate::LineAnswer;
-use crate::held::try_solve;
 use crate::judge::judge_binary_line;
 use rules::Verdict;
+use solver::try_solve;
 ghost use mathlib.Core.Path.{_≡_};
 ghost use mathlib.Core.List.{map};
 ghost use Prim.Native.Nat.{_≤_};

@@ -1,10 +1,8 @@
 // One nonogram line: the dynamic solver of nonogrid's line.rs over colour sets, and its binary face.
 // Each public call judges its input first; a refusal by checking changes nothing.
 pub mod binary;
-mod held;
 mod judge;
 pub mod multicolor;
-mod solver;
 
 use rules::Refusal;
 use rules::refusal_number;

@@ -1,9 +1,9 @@
 // A coloured line: its cells are colour sets, its blocks are a list of sizes and a list of colours of equal length.
 use crate::LineAnswer;
-use crate::held::copy_at;
-use crate::held::try_solve;
 use crate::judge::judge_line;
 use rules::Verdict;
+use solver::copy_at;
+use solver::try_solve;
 ghost use mathlib.Core.Path.{_≡_};
 ghost use Prim.Native.Nat.{_≤_};
 ghost use lib.ListN.{length, take};

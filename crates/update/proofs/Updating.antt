@@ -19,7 +19,8 @@ use Rattle.rules.proofs.Boards.{length-line}
 use Rattle.rules.proofs.Blocks.{length-blocks, legal-test}
 use Rattle.rules.proofs.Cards.{straight-proper, straight-right}
 use Rattle.rules.proofs.Runs.{room-step}
-use Rattle.line.specs.Steps.{Ready as Solvable, outcome}
+use Rattle.line.specs.Steps.{Ready as Solvable}
+use Rattle.solver.specs.Steps.{outcome}
 use Rattle.grid.specs.Grid.{Grid, changes, Storable, Stored}
 use Rattle.grid.proofs.Rows.{sized}
 use Rattle.grid.proofs.Storing.{len-most}

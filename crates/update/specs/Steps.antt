@@ -11,7 +11,7 @@ use Rattle.rules.specs.Board.{len, On, lineOf, store}
 use Rattle.rules.specs.Card.{Card, clueOf, solveStraight}
 use Rattle.rules.specs.Run.{pushAll, changed, room}
 use Rattle.rules.specs.declared.LinePosition.{LinePosition}
-use Rattle.line.specs.Steps.{outcome}
+use Rattle.solver.specs.Steps.{outcome}
 use Rattle.loops.specs.Put.{Put}
 use Rattle.grid.specs.Grid.{Grid, changes, news}
 use Rattle.stack.specs.Stack.{stackOf, Lines}

@@ -2,7 +2,7 @@
 use mathlib.Core.Path.{sym, ap, _∙_}
 use borrow.Author.Tests.{not-true, not-false}
 use Rattle.rules.proofs.Tests.{true-not-false}
-use Rattle.line.specs.Steps.{outcome}
+use Rattle.solver.specs.Steps.{outcome}
 use Rattle.update.proofs.Updating.{pushable}
 use borrow.Author.Needs.{needs}
 use Rattle.update.proofs.solve_cells.Statement.{statement}

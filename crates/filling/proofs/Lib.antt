@@ -1,0 +1,4 @@
+pub mod Ints
+pub mod Added
+pub mod Fillings
+pub mod Pieces

@@ -1,0 +1,2 @@
+-- `Steps` is what the functions say.
+pub mod Steps
