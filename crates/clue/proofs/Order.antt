@@ -7,12 +7,8 @@ use Rattle.rules.specs.Refusal.{verdict, lengthRules, Lowest}
 use Rattle.rules.specs.declared.Refusal.{Refusal}
 use Rattle.rules.specs.declared.Verdict.the-variants.{Bad}
 use Rattle.rules.proofs.Verdicts.{verdict-lowest}
-use Rattle.clue.specs.Calls.{codeRules, gridRules}
+use Rattle.clue.specs.Calls.{codeRules}
 
 -- from_line
 pub line-lowest : (n : ℕ) (fits bad : Bool) {w : Refusal} → verdict (lengthRules n ++ codeRules fits bad) ≡ Bad w → Lowest (lengthRules n ++ codeRules fits bad) w
 line-lowest n fits bad e = verdict-lowest 0 (lengthRules n ++ codeRules fits bad) refl e
-
--- clues_from_solution
-pub grid-lowest : (w h : ℕ) (fits bad : Bool) {r : Refusal} → verdict (gridRules w h fits bad) ≡ Bad r → Lowest (gridRules w h fits bad) r
-grid-lowest w h fits bad e = verdict-lowest 0 (gridRules w h fits bad) refl e

@@ -1,18 +1,13 @@
--- A turn of the loop that looks for the first code, and the tests on the lists of a grid.
-use Prim.Native.Nat.{_≤_, ℕ, _+_, _<_, _*_}
-use borrow.Author.Tests.{eq-eqb, ne-eqb, eqb-true, leb-true, le-leb}
-use lib.Dec.{eqb, leb}
+-- A turn of the loop that looks for the first code.
+use Prim.Native.Nat.{_≤_, ℕ, _+_, _<_}
+use borrow.Author.Tests.{eq-eqb, ne-eqb}
 use lib.ListN.{length, drop, getD, drop-of-length-le}
 use lib.Seq.{drop-cons}
-use mathlib.Core.Bool.{true, false, _&&_}
+use mathlib.Core.Bool.{false}
 use mathlib.Core.List.{List}
 use mathlib.Core.Path.{_≡_}
 use native.Mathlib.Numerals.{add-one}
-use Rattle.clue.specs.Calls.{gridFits}
-use Rattle.rules.proofs.Tests.{both-true}
 use Rattle.rules.specs.Clue.{otherCode, mixedCode}
-
--- ---- two different codes
 
 module _ (e : ℕ) (l : List ℕ) (i : ℕ) where
   pub mixed-blank : i < length l → getD l i 0 ≡ e → mixedCode e (drop i l) ≡ mixedCode e (drop (i + 1) l)
@@ -23,34 +18,3 @@ module _ (e : ℕ) (l : List ℕ) (i : ℕ) where
 
   pub mixed-end : length l ≤ i → mixedCode e (drop i l) ≡ false
   mixed-end h = rw (drop-of-length-le l h)
-
--- ---- the lists of a grid
-
--- the tests of rule 2, one after the other
-pub grid-last : (w h p rc rs cc cs : ℕ) → p ≡ w * h → h ≤ rc → w * h ≤ rs → w ≤ cc → leb (w * h) cs ≡ gridFits w h p rc rs cc cs
-grid-last w h p rc rs cc cs a b d f = rw (eq-eqb p (w * h) a, le-leb h rc b, le-leb (w * h) rs d, le-leb w cc f)
-
--- ---- what the grid's tests tell
-
-pub record Fitted (w h p rc rs cc cs : ℕ) : Type 0 where
-  pub exact : p ≡ w * h
-  pub row-counts : h ≤ rc
-  pub row-sizes : w * h ≤ rs
-  pub column-counts : w ≤ cc
-  pub column-sizes : w * h ≤ cs
-
-pub fitted : (w h p rc rs cc cs : ℕ) → gridFits w h p rc rs cc cs ≡ true → Fitted w h p rc rs cc cs
-fitted w h p rc rs cc cs e =
-    let v = leb w cc && leb (w * h) cs in
-    let u = leb (w * h) rs && v in
-    let a = both-true (eqb p (w * h)) (leb h rc && u) e in
-    let b = both-true (leb h rc) u (a .1) in
-    let d = both-true (leb (w * h) rs) v (b .1) in
-    let f = both-true (leb w cc) (leb (w * h) cs) (d .1) in
-    record {
-      exact = eqb-true p (w * h) (a .0);
-      row-counts = leb-true h rc (b .0);
-      row-sizes = leb-true (w * h) rs (d .0);
-      column-counts = leb-true w cc (f .0);
-      column-sizes = leb-true (w * h) cs (f .1);
-    }

@@ -3,8 +3,8 @@ use borrow.Author.Tests.{not-true, not-false}
 use native.Mathlib.Nat.{mul-le-mul}
 use native.Mathlib.Omega.{arith}
 use borrow.Author.Needs.{needs}
-use Rattle.clue.proofs.judge.colours_fit.Statement.{statement}
-use Rattle.clue.proofs.judge.colours_fit.Tie as tie
+use Rattle.picture.proofs.judge.colours_fit.Statement.{statement}
+use Rattle.picture.proofs.judge.colours_fit.Tie as tie
 
 returns : tie.Need-returns
 returns c = simp (not-true (c .before .args .fits) (c .if1 .taken))

@@ -1,9 +1,9 @@
 -- `binary::clues_from_solution` meets its contract: the rules, and then a pass for each list.
 use mathlib.Core.Path.{sym, _∙_}
-use Rattle.clue.proofs.Told.{lists-refused, lists-done, binary-known}
+use Rattle.picture.proofs.Told.{lists-refused, lists-done, binary-known}
 use borrow.Author.Needs.{needs}
-use Rattle.clue.proofs.binary.clues_from_solution.Statement.{statement}
-use Rattle.clue.proofs.binary.clues_from_solution.Tie as tie
+use Rattle.picture.proofs.binary.clues_from_solution.Statement.{statement}
+use Rattle.picture.proofs.binary.clues_from_solution.Tie as tie
 
 judge-binary-grid-requires : tie.Need-judge-binary-grid-requires
 judge-binary-grid-requires c κs = search needs

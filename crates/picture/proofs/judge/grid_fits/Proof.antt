@@ -1,10 +1,10 @@
 -- `judge::grid_fits` meets its contract, by its tests.
 use borrow.Author.Tests.{eq-eqb, ne-eqb, le-leb, lt-leb}
 use native.Mathlib.Nat.{mul-le-mul}
-use Rattle.clue.proofs.Searched.{grid-last}
+use Rattle.picture.proofs.Fitted.{grid-last}
 use native.Mathlib.Omega.{arith}
-use Rattle.clue.proofs.judge.grid_fits.Statement.{statement}
-use Rattle.clue.proofs.judge.grid_fits.Tie as tie
+use Rattle.picture.proofs.judge.grid_fits.Statement.{statement}
+use Rattle.picture.proofs.judge.grid_fits.Tie as tie
 
 mul-cells : tie.Need-mul-cells
 mul-cells c =

@@ -1,14 +1,15 @@
 -- `judge::judge_binary_grid` meets its contract: one rule after the other.
 use lib.ListN.{length}
 use mathlib.Core.Path.{sym, _∙_}
-use Rattle.clue.proofs.Told.{grid-same}
+use Rattle.picture.proofs.Told.{grid-same}
 use Rattle.rules.proofs.Verdicts.{sides-fine, append-bad}
-use Rattle.clue.specs.Calls.{codeRules, gridFits}
+use Rattle.clue.specs.Calls.{codeRules}
+use Rattle.picture.specs.Calls.{gridFits}
 use Rattle.rules.specs.Clue.{mixedCode}
 use Rattle.rules.specs.Refusal.{sideRules}
 use borrow.Author.Needs.{needs}
-use Rattle.clue.proofs.judge.judge_binary_grid.Statement.{statement}
-use Rattle.clue.proofs.judge.judge_binary_grid.Tie as tie
+use Rattle.picture.proofs.judge.judge_binary_grid.Statement.{statement}
+use Rattle.picture.proofs.judge.judge_binary_grid.Tie as tie
 
 judge-sides-requires : tie.Need-judge-sides-requires
 judge-sides-requires c κs = search needs

@@ -1,9 +1,9 @@
 -- `multicolor::clues_from_solution` meets its contract: the rules, and then a pass for each list.
 use mathlib.Core.Path.{sym, _∙_}
-use Rattle.clue.proofs.Told.{lists-refused, colours-refused, lists-done, colours-done, coloured-known, colours-known}
+use Rattle.picture.proofs.Told.{lists-refused, colours-refused, lists-done, colours-done, coloured-known, colours-known}
 use borrow.Author.Needs.{needs}
-use Rattle.clue.proofs.multicolor.clues_from_solution.Statement.{statement}
-use Rattle.clue.proofs.multicolor.clues_from_solution.Tie as tie
+use Rattle.picture.proofs.multicolor.clues_from_solution.Statement.{statement}
+use Rattle.picture.proofs.multicolor.clues_from_solution.Tie as tie
 
 judge-coloured-grid-requires : tie.Need-judge-coloured-grid-requires
 judge-coloured-grid-requires c κs = search needs

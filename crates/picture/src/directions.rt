@@ -1,6 +1,6 @@
 // The clues of a grid, one list after the other. A row is a part of the lent grid; a column is copied.
-use crate::Part;
-use crate::line::write_line;
+use clue::Part;
+use clue::line::write_line;
 use grid::lines::copy_column;
 use grid::lines::row;
 use rules::ColumnIndex;
@@ -10,7 +10,8 @@ ghost use lib.ListN.{length};
 ghost use Rattle.rules.specs.Card.{rowClues, columnClues, gathered};
 ghost use Rattle.loops.specs.Put.{Put};
 ghost use Rattle.grid.specs.Grid.{Grid};
-ghost use Rattle.clue.specs.Steps.{per, entries, GridRoom, CluesPut};
+ghost use Rattle.clue.specs.Steps.{per, entries};
+ghost use Rattle.picture.specs.Steps.{GridRoom, CluesPut};
 
 // How many blocks the rows have, and the columns.
 pub(crate) struct Totals {
