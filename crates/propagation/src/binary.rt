@@ -77,13 +77,6 @@ fn run_black<'a, 'b>(
     answer
 }
 
-// As many black colours as a direction can have blocks.
-fn make_black() -> [u32; 4096]
-    ensures { λ r. ⌜ r ≡ replicate 4096 2 ⌝ }
-{
-    [2; 4096]
-}
-
 fn run_from<'a>(
     width: usize,
     height: usize,
@@ -115,7 +108,7 @@ fn run_from<'a>(
     match v {
         Verdict::Bad(w) => RunAnswer::Refused(w),
         Verdict::Fine => {
-            let colours = make_black();
+            let colours = [2u32; 4096];
             run_black(
                 width,
                 height,

@@ -1,6 +1,6 @@
 -- `binary::run_from` meets its contract: judge first, then match, then work.
 use lib.ListN.{length}
-use mathlib.Core.Path.{_≡_, sym, _∙_}
+use mathlib.Core.Path.{_≡_, refl, sym, _∙_}
 use Rattle.rules.specs.Card.{Card, blackCard}
 use Rattle.rules.specs.Refusal.{verdict}
 use Rattle.rules.specs.declared.Verdict.the-variants.{Fine}
@@ -20,9 +20,6 @@ enum-known-v c = search needs
 enum-told : tie.Need-enum-told
 enum-told c = search needs
 
-make-black-requires : tie.Need-make-black-requires
-make-black-requires c κs = search needs
-
 slice-aggregate-run-black : tie.Need-slice-aggregate-run-black
 slice-aggregate-run-black c = search needs
 
@@ -41,13 +38,12 @@ fine c = sym (c .before .before .judge-binary .ensures) ∙ c .enum-told .given 
 run-black-requires : tie.Need-run-black-requires
 run-black-requires c κs =
     let start = c .before .before .before .before .before .before .before .before .before .before .before .before .before .before .before .before
-    .before .before in
+    .before in
     let args = start .args in
-    let make-black = c .before .before .before .before .before .make-black in
     record {
       judged = judged-binary (args .width) (args .height) (args .start) (card start) (args .grid .now) (args .report .now) (args .memo .now)
-          (args .stack .now) (fine (c .before .before .before .before .before .before));
-      black = make-black .ensures;
+          (args .stack .now) (fine (c .before .before .before .before .before));
+      black = refl;
     }
 
 same-length : tie.Need-same-length
@@ -73,14 +69,13 @@ same-length-5 c = search needs
 returns-2 : tie.Need-returns-2
 returns-2 c =
     let start = c .before .before .before .before .before .before .before .before .before .before .before .before .before .before .before .before
-    .before .before .before .before .before .before .before .before .before .before .before in
+    .before .before .before .before .before .before .before .before .before .before in
     let args = start .args in
     let run-black = c .before .before .before .before .before .before .before .before .run-black in
-    ran-ended (fine (c .before .before .before .before .before .before .before .before .before .before .before .before .before .before .before))
+    ran-ended (fine (c .before .before .before .before .before .before .before .before .before .before .before .before .before .before))
     (run-black .ensures .tells) (run-black .ensures .board) (run-black .ensures .reports)
     (told-fits (judged-binary (args .width) (args .height) (args .start) (card start) (args .grid .now) (args .report .now) (args .memo .now)
-    (args .stack .now) (fine (c .before .before .before .before .before .before .before .before .before .before .before .before .before .before
-    .before))))
+    (args .stack .now) (fine (c .before .before .before .before .before .before .before .before .before .before .before .before .before .before))))
     (run-black .kept .1 .1 .1 .1 .1 .1 .1 .1 .1 .1 .0)
     (run-black .kept .1 .1 .1 .1 .1 .1 .1 .1 .1 .1 .1 .0)
 
@@ -91,7 +86,6 @@ run-from-spec =
     judge-binary-requires
     enum-known-v
     enum-told
-    make-black-requires
     slice-aggregate-run-black
     run-black-requires
     same-length
