@@ -15,7 +15,8 @@ from reading_runs import COLUMN, LEAST_STACK, ROW, RUN_CALLS, Ending, Rooms, roo
 FIRST_SEED = 7303
 # How the driver and the file write a kind of line.
 LETTERS = {"r": ROW, "c": COLUMN}
-KINDS = {ROW: 1, COLUMN: 2}
+KINDS = {ROW: 0, COLUMN: 1}
+NO_LINE = 2
 
 
 def request(call, card):
@@ -64,7 +65,7 @@ def counted(part):
 
 def write_case(call, card, answer):
     """A case's numbers. A full run's point is 0 0."""
-    kind, index = (KINDS[answer.line[0]], answer.line[1]) if answer.line else (0, 0)
+    kind, index = (KINDS[answer.line[0]], answer.line[1]) if answer.line else (NO_LINE, 0)
     words = [call, card.width, card.height, *(card.point or (0, 0)), least_room(call, card)]
     for part in card.grid, *card.rows, *card.columns:
         words += counted(part)
@@ -82,7 +83,7 @@ def write_header(seed, cases, answers):
     print("# One case a line: the call's number, its inputs, and the answer. [x] is a list: how many entries, and the entries.")
     print("# call width height x y room [grid], then [counts] [sizes] [colours] of the rows and of the columns. x and y are 0 in a full")
     print("#   run, room is the report's least room, and binary blocks have no colours. Then number kind index entries lines [grid] [report]:")
-    print("#   the refusing line's kind, 0 none, 1 a row, 2 a column, and its index; report entries and lines solved; what is left.")
+    print("#   the refusing line's kind, 0 a row, 1 a column, 2 none, and its index; report entries and lines solved; what is left.")
     for call in RUN_CALLS:
         own = [answer for (c, _), answer in zip(cases, answers) if c == call]
         unsolvable = sum(answer.number == 8 for answer in own)

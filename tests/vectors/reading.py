@@ -227,27 +227,27 @@ class Call:
 
 # The numbering of the calls in every file of vectors. The last column is the oracle driver's command.
 CALLS = {
-    1: Call("multicolor::partial_sums", "", "sizes colours", "sums", partial_sums, "sc"),
-    2: Call("multicolor::block_starts", "", "sizes colours", "starts", block_starts, "bc"),
-    3: Call("multicolor::positions_number", "length", "sizes colours", "", positions_number, "pc"),
-    4: Call("multicolor::color_ranges", "length", "sizes colours", "out_colours out_from out_to", color_ranges, "vc"),
-    5: Call("multicolor::description_new", "", "sizes colours", "out_sizes out_colours", description_new, "dc"),
-    6: Call("multicolor::from_line", "blank", "codes", "sizes colours", line_clue(True), "cc"),
+    1: Call("sp_partial_sums", "", "sizes colours", "sums", partial_sums, "sc"),
+    2: Call("sp_block_starts", "", "sizes colours", "starts", block_starts, "bc"),
+    3: Call("sp_positions_number", "length", "sizes colours", "", positions_number, "pc"),
+    4: Call("sp_color_ranges", "length", "sizes colours", "out_colours out_from out_to", color_ranges, "vc"),
+    5: Call("sp_description", "", "sizes colours", "out_sizes out_colours", description_new, "dc"),
+    6: Call("sp_clue", "blank", "codes", "sizes colours", line_clue(True), "cc"),
     7: Call(
-        "multicolor::clues_from_solution",
+        "sp_clues",
         "width height blank",
         "codes",
         "row_counts row_sizes row_colours column_counts column_sizes column_colours",
         grid_clues(True),
         "gc",
     ),
-    8: Call("binary::partial_sums", "", "sizes", "sums", partial_sums, "sb"),
-    9: Call("binary::block_starts", "", "sizes", "starts", block_starts, "bb"),
-    10: Call("binary::positions_number", "length", "sizes", "", positions_number, "pb"),
-    11: Call("binary::description_new", "", "sizes", "out_sizes", description_new, "db"),
-    12: Call("binary::from_line", "blank", "codes", "sizes", line_clue(False), "cb"),
+    8: Call("sp_binary_partial_sums", "", "sizes", "sums", partial_sums, "sb"),
+    9: Call("sp_binary_block_starts", "", "sizes", "starts", block_starts, "bb"),
+    10: Call("sp_binary_positions_number", "length", "sizes", "", positions_number, "pb"),
+    11: Call("sp_binary_description", "", "sizes", "out_sizes", description_new, "db"),
+    12: Call("sp_binary_clue", "blank", "codes", "sizes", line_clue(False), "cb"),
     13: Call(
-        "binary::clues_from_solution",
+        "sp_binary_clues",
         "width height blank",
         "codes",
         "row_counts row_sizes column_counts column_sizes",
@@ -257,6 +257,6 @@ CALLS = {
 }
 # The same for the calls on lines. Their rooms are the memo's and the output's.
 LINE_CALLS = {
-    14: Call("multicolor::solve", "", "cells sizes colours", "out", solve_coloured, "lc"),
-    15: Call("binary::solve", "", "cells sizes", "out", solve_binary, "lb"),
+    14: Call("sp_solve_line", "", "cells sizes colours", "out", solve_coloured, "lc"),
+    15: Call("sp_solve_binary_line", "", "cells sizes", "out", solve_binary, "lb"),
 }

@@ -149,8 +149,8 @@ class RunCall:
 
 # The numbering goes on from reading.py's.
 RUN_CALLS = {
-    16: RunCall("multicolor::run", True, False),
-    17: RunCall("multicolor::run_point", True, True),
-    18: RunCall("binary::run", False, False),
-    19: RunCall("binary::run_point", False, True),
+    16: RunCall("sp_run", True, False),
+    17: RunCall("sp_run_point", True, True),
+    18: RunCall("sp_run_binary", False, False),
+    19: RunCall("sp_run_binary_point", False, True),
 }

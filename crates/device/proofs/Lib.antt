@@ -1,2 +1,1 @@
-pub mod Flat
 pub mod Unique

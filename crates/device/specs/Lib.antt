@@ -1,2 +1,2 @@
--- `Replies` is what a run's answer tells over C.
+-- `Replies` is what answers tell over C.
 pub mod Replies

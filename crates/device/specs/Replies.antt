@@ -1,19 +1,46 @@
--- What a run's answer tells over C: the fields of the struct, and the reply that they stand for.
+-- What answers tell over C: the form of every statement about a struct, and the one struct for each answer.
+use mathlib.Core.Path.{_≡_}
 use mathlib.Core.Option.{Option, none, some}
-use Prim.Native.Nat.{ℕ, zero, suc}
+use Prim.Native.Nat.{ℕ}
+use Rattle.rules.specs.Refusal.{refusalNumber}
 use Rattle.rules.specs.declared.LinePosition.{LinePosition}
 use Rattle.rules.specs.declared.LinePosition.the-variants.{Row, Column}
+use Rattle.rules.specs.declared.ListAnswer.{ListAnswer}
+use Rattle.rules.specs.declared.ListAnswer.the-variants.{Done, Refused}
+use Rattle.positions.specs.declared.NumberAnswer.{NumberAnswer}
+use Rattle.positions.specs.declared.NumberAnswer.the-variants as number
+use Rattle.picture.specs.declared.CluesAnswer.{CluesAnswer}
+use Rattle.picture.specs.declared.CluesAnswer.the-variants as clues
 use Rattle.run.specs.Ends.{Reply}
+use Rattle.device.specs.declared.count.CountReply.{CountReply}
+use Rattle.device.specs.declared.blocks.PositionsReply.{PositionsReply}
+use Rattle.device.specs.declared.clues.CluesReply.{CluesReply}
 use Rattle.device.specs.declared.runs.RunReply.{RunReply}
 
--- the line that refused, by its kind and its index: a row, a column, or none
-abbrev pub lineTold : ℕ → ℕ → Option LinePosition
-lineTold zero i = some (Row (record { 0 = i }))
-lineTold (suc zero) i = some (Column (record { 0 = i }))
-lineTold (suc (suc k)) i = none
+-- r is what an answer tells of which the call's own statement holds
+pub record Told {A B : Type 0} (tell : A → B) (Says : A → Type 0) (r : B) : Type 0 where
+  pub answer : A
+  pub says : Says answer
+  pub tells : r ≡ tell answer
 
-abbrev pub told : RunReply → Reply
-told r = record { number = r .number; line = lineTold (r .«line_kind») (r .«line_index»); entries = r .entries; lines = r .lines }
+-- ---- document 01's number, and the values that come with 0; with a refusal these are 0
+
+-- how many entries are written
+abbrev pub tellCount : ListAnswer → CountReply
+tellCount (Done n) = record { number = 0; count = n }
+tellCount (Refused w) = record { number = refusalNumber w; count = 0 }
+
+-- how many blocks are written for the rows, and for the columns
+abbrev pub tellClues : CluesAnswer → CluesReply
+tellClues (clues.Done m n) = record { number = 0; rows = m; columns = n }
+tellClues (clues.Refused w) = record { number = refusalNumber w; rows = 0; columns = 0 }
+
+-- in how many places the blocks lie
+abbrev pub tellPositions : NumberAnswer → PositionsReply
+tellPositions (number.Number n) = record { number = 0; positions = n }
+tellPositions (number.Refused w) = record { number = refusalNumber w; positions = 0 }
+
+-- ---- a run
 
 -- the kind and the index of a line; where there is none they are 2 and 0
 abbrev pub kindOf : Option LinePosition → ℕ

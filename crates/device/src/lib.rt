@@ -1,3 +1,6 @@
 // The device library: the public calls for C and Rust, each with its Rattle call's whole statement.
-mod lines;
-mod runs;
+pub mod blocks;
+pub mod clues;
+pub mod count;
+pub mod lines;
+pub mod runs;

@@ -13,7 +13,7 @@ ghost use Rattle.card.specs.Steps.{cardOf};
 ghost use Rattle.run.specs.declared.Start.the-variants.{Full, Point};
 ghost use Rattle.run.specs.Ends.{replyOf};
 ghost use Rattle.propagation.specs.Calls.{Runs, RunsBinary};
-ghost use Rattle.device.specs.Replies.{told, flat};
+ghost use Rattle.device.specs.Replies.{Told, flat};
 
 // What a run answers: document 01's number; the line that refused, its kind 0 for a row, 1 for a column and 2 for none, whose index is 0;
 // the entries written to the report; the lines solved. A refusal by checking has no line and no counts.
@@ -89,7 +89,7 @@ pub extern "C" fn sp_run<'a, 'b>(
     memo: &mut [u8],
     stack: &mut [u32],
 ) -> RunReply
-    ensures { λ r. ⌜ Runs width height Full (cardOf (now («row_counts» .entry)) (now («row_sizes» .entry)) (now («row_colours» .entry)) (now («column_counts» .entry)) (now («column_sizes» .entry)) (now («column_colours» .entry))) (now (grid .entry)) (now (report .entry)) (now (memo .entry)) (now (stack .entry)) (told r) (now (grid .exit)) (now (report .exit)) (now (memo .exit)) (now (stack .exit)) × (r ≡ flat (told r)) ⌝ }
+    ensures { λ r. ⌜ Told flat (λ t. Runs width height Full (cardOf (now («row_counts» .entry)) (now («row_sizes» .entry)) (now («row_colours» .entry)) (now («column_counts» .entry)) (now («column_sizes» .entry)) (now («column_colours» .entry))) (now (grid .entry)) (now (report .entry)) (now (memo .entry)) (now (stack .entry)) t (now (grid .exit)) (now (report .exit)) (now (memo .exit)) (now (stack .exit))) r ⌝ }
 {
     reply_of(multicolor::run(
         width,
@@ -125,7 +125,7 @@ pub extern "C" fn sp_run_point<'a, 'b>(
     memo: &mut [u8],
     stack: &mut [u32],
 ) -> RunReply
-    ensures { λ r. ⌜ Runs width height (Point (record { 0 = x }) (record { 0 = y })) (cardOf (now («row_counts» .entry)) (now («row_sizes» .entry)) (now («row_colours» .entry)) (now («column_counts» .entry)) (now («column_sizes» .entry)) (now («column_colours» .entry))) (now (grid .entry)) (now (report .entry)) (now (memo .entry)) (now (stack .entry)) (told r) (now (grid .exit)) (now (report .exit)) (now (memo .exit)) (now (stack .exit)) × (r ≡ flat (told r)) ⌝ }
+    ensures { λ r. ⌜ Told flat (λ t. Runs width height (Point (record { 0 = x }) (record { 0 = y })) (cardOf (now («row_counts» .entry)) (now («row_sizes» .entry)) (now («row_colours» .entry)) (now («column_counts» .entry)) (now («column_sizes» .entry)) (now («column_colours» .entry))) (now (grid .entry)) (now (report .entry)) (now (memo .entry)) (now (stack .entry)) t (now (grid .exit)) (now (report .exit)) (now (memo .exit)) (now (stack .exit))) r ⌝ }
 {
     reply_of(multicolor::run_point(
         width,
@@ -159,7 +159,7 @@ pub extern "C" fn sp_run_binary<'a>(
     memo: &mut [u8],
     stack: &mut [u32],
 ) -> RunReply
-    ensures { λ r. ⌜ RunsBinary width height Full (blackCard (now («row_counts» .entry)) (now («row_sizes» .entry)) (now («column_counts» .entry)) (now («column_sizes» .entry))) (now (grid .entry)) (now (report .entry)) (now (memo .entry)) (now (stack .entry)) (told r) (now (grid .exit)) (now (report .exit)) (now (memo .exit)) (now (stack .exit)) × (r ≡ flat (told r)) ⌝ }
+    ensures { λ r. ⌜ Told flat (λ t. RunsBinary width height Full (blackCard (now («row_counts» .entry)) (now («row_sizes» .entry)) (now («column_counts» .entry)) (now («column_sizes» .entry))) (now (grid .entry)) (now (report .entry)) (now (memo .entry)) (now (stack .entry)) t (now (grid .exit)) (now (report .exit)) (now (memo .exit)) (now (stack .exit))) r ⌝ }
 {
     reply_of(binary::run(
         width,
@@ -191,7 +191,7 @@ pub extern "C" fn sp_run_binary_point<'a>(
     memo: &mut [u8],
     stack: &mut [u32],
 ) -> RunReply
-    ensures { λ r. ⌜ RunsBinary width height (Point (record { 0 = x }) (record { 0 = y })) (blackCard (now («row_counts» .entry)) (now («row_sizes» .entry)) (now («column_counts» .entry)) (now («column_sizes» .entry))) (now (grid .entry)) (now (report .entry)) (now (memo .entry)) (now (stack .entry)) (told r) (now (grid .exit)) (now (report .exit)) (now (memo .exit)) (now (stack .exit)) × (r ≡ flat (told r)) ⌝ }
+    ensures { λ r. ⌜ Told flat (λ t. RunsBinary width height (Point (record { 0 = x }) (record { 0 = y })) (blackCard (now («row_counts» .entry)) (now («row_sizes» .entry)) (now («column_counts» .entry)) (now («column_sizes» .entry))) (now (grid .entry)) (now (report .entry)) (now (memo .entry)) (now (stack .entry)) t (now (grid .exit)) (now (report .exit)) (now (memo .exit)) (now (stack .exit))) r ⌝ }
 {
     reply_of(binary::run_point(
         width,

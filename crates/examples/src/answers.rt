@@ -1,44 +1,37 @@
 // Writes answers: document 01's number, and the values that come with 0.
-use block::NumberAnswer;
-use clue::CluesAnswer;
-use rules::ListAnswer;
-use rules::Refusal;
-use rules::refusal_number;
+use device::blocks::PositionsReply;
+use device::clues::CluesReply;
+use device::count::CountReply;
 use vectors::lists::widen;
 use vectors::report::write_number;
 use vectors::report::write_text;
 
-fn write_refusal(refusal: Refusal) {
+pub(crate) fn write_answer(number: u32) {
     write_text(b" ->");
-    write_number(widen(refusal_number(refusal)));
+    write_number(widen(number));
 }
 
-fn write_done(value: u64) {
-    write_text(b" -> 0,");
-    write_number(value);
-}
-
-pub(crate) fn write_entries(answer: ListAnswer) {
-    match answer {
-        ListAnswer::Done { entries } => write_done(entries as u64),
-        ListAnswer::Refused(refusal) => write_refusal(refusal),
+// The number, and with 0 one value.
+fn write_with(number: u32, value: u64) {
+    write_answer(number);
+    if number == 0 {
+        write_text(b",");
+        write_number(value);
     }
 }
 
-pub(crate) fn write_value(answer: NumberAnswer) {
-    match answer {
-        NumberAnswer::Number(number) => write_done(number),
-        NumberAnswer::Refused(refusal) => write_refusal(refusal),
-    }
+pub(crate) fn write_count(reply: CountReply) {
+    write_with(reply.number, reply.count as u64);
 }
 
-pub(crate) fn write_totals(answer: CluesAnswer) {
-    match answer {
-        CluesAnswer::Done { rows, columns } => {
-            write_done(rows as u64);
-            write_number(columns as u64);
-        }
-        CluesAnswer::Refused(refusal) => write_refusal(refusal),
+pub(crate) fn write_positions(reply: PositionsReply) {
+    write_with(reply.number, reply.positions);
+}
+
+pub(crate) fn write_totals(reply: CluesReply) {
+    write_with(reply.number, reply.rows as u64);
+    if reply.number == 0 {
+        write_number(reply.columns as u64);
     }
 }
 

@@ -1,10 +1,9 @@
 // Shows the calls on blocks. A case has a length (0 where the call has none), sizes, colours, and the rooms of the lists to write.
 use crate::answers::room_at;
-use crate::answers::write_entries;
-use crate::answers::write_value;
-use block::binary;
-use block::multicolor;
-use rules::ListAnswer;
+use crate::answers::write_count;
+use crate::answers::write_positions;
+use cases::calls;
+use device::blocks::sp_color_ranges;
 use vectors::lists;
 use vectors::reader::Reader;
 use vectors::reader::demand;
@@ -16,15 +15,15 @@ use vectors::show::write_list;
 
 fn write_name(call: u64) {
     match call {
-        1 => write_text(b"multicolor::partial_sums"),
-        2 => write_text(b"multicolor::block_starts"),
-        3 => write_text(b"multicolor::positions_number"),
-        4 => write_text(b"multicolor::color_ranges"),
-        5 => write_text(b"multicolor::description_new"),
-        8 => write_text(b"binary::partial_sums"),
-        9 => write_text(b"binary::block_starts"),
-        10 => write_text(b"binary::positions_number"),
-        _ => write_text(b"binary::description_new"),
+        1 => write_text(b"sp_partial_sums"),
+        2 => write_text(b"sp_block_starts"),
+        3 => write_text(b"sp_positions_number"),
+        4 => write_text(b"sp_color_ranges"),
+        5 => write_text(b"sp_description"),
+        8 => write_text(b"sp_binary_partial_sums"),
+        9 => write_text(b"sp_binary_block_starts"),
+        10 => write_text(b"sp_binary_positions_number"),
+        _ => write_text(b"sp_binary_description"),
     }
 }
 
@@ -43,28 +42,11 @@ fn write_given(call: u64, length: usize, sizes: &[u32], colours: &[u32]) {
     }
 }
 
-fn pack(call: u64, sizes: &[u32], colours: &[u32], sums: &mut [u64]) -> ListAnswer {
-    match call {
-        1 => multicolor::partial_sums(sizes, colours, sums),
-        2 => multicolor::block_starts(sizes, colours, sums),
-        8 => binary::partial_sums(sizes, sums),
-        _ => binary::block_starts(sizes, sums),
-    }
-}
-
 fn show_pack(call: u64, sizes: &[u32], colours: &[u32], sums: &mut [u64]) {
-    write_entries(pack(call, sizes, colours, sums));
+    write_count(calls::pack(call, sizes, colours, sums));
     match call {
         1 | 8 => write_left_wide(b"; sums", sums),
         _ => write_left_wide(b"; starts", sums),
-    }
-}
-
-fn show_positions(call: u64, length: usize, sizes: &[u32], colours: &[u32]) {
-    if call == 3 {
-        write_value(multicolor::positions_number(length, sizes, colours));
-    } else {
-        write_value(binary::positions_number(length, sizes));
     }
 }
 
@@ -76,24 +58,10 @@ fn show_ranges(
     out_from: &mut [u64],
     out_to: &mut [u64],
 ) {
-    let answer = multicolor::color_ranges(length, sizes, colours, out_colours, out_from, out_to);
-    write_entries(answer);
+    write_count(sp_color_ranges(length, sizes, colours, out_colours, out_from, out_to));
     write_left(b"; out_colours", out_colours);
     write_left_wide(b"; out_from", out_from);
     write_left_wide(b"; out_to", out_to);
-}
-
-fn describe(
-    call: u64,
-    sizes: &[u32],
-    colours: &[u32],
-    out_sizes: &mut [u32],
-    out_colours: &mut [u32],
-) -> ListAnswer {
-    match call {
-        5 => multicolor::description_new(sizes, colours, out_sizes, out_colours),
-        _ => binary::description_new(sizes, out_sizes),
-    }
 }
 
 fn show_description(
@@ -103,7 +71,7 @@ fn show_description(
     out_sizes: &mut [u32],
     out_colours: &mut [u32],
 ) {
-    write_entries(describe(call, sizes, colours, out_sizes, out_colours));
+    write_count(calls::describe(call, sizes, colours, out_sizes, out_colours));
     write_left(b"; out_sizes", out_sizes);
     if call == 5 {
         write_left(b"; out_colours", out_colours);
@@ -151,7 +119,7 @@ fn lend_description(call: u64, sizes: &[u32], colours: &[u32], rooms: &[u32]) {
 fn show_case(call: u64, length: usize, sizes: &[u32], colours: &[u32], rooms: &[u32]) {
     write_given(call, length, sizes, colours);
     match call {
-        3 | 10 => show_positions(call, length, sizes, colours),
+        3 | 10 => write_positions(calls::count_positions(call, length, sizes, colours)),
         4 => lend_ranges(length, sizes, colours, rooms),
         5 | 11 => lend_description(call, sizes, colours, rooms),
         _ => lend_sums(call, sizes, colours, rooms),

@@ -1,11 +1,8 @@
 // Shows the calls for clues. A case has a width and a height (0 for a line), a blank code, codes, and the rooms of the lists to write.
 use crate::answers::room_at;
-use crate::answers::write_entries;
+use crate::answers::write_count;
 use crate::answers::write_totals;
-use clue::CluesAnswer;
-use clue::binary;
-use clue::multicolor;
-use rules::ListAnswer;
+use cases::calls;
 use vectors::lists;
 use vectors::lists::Picture;
 use vectors::lists::widen;
@@ -17,10 +14,10 @@ use vectors::show::write_list;
 
 fn write_name(call: u64) {
     match call {
-        6 => write_text(b"multicolor::from_line"),
-        7 => write_text(b"multicolor::clues_from_solution"),
-        12 => write_text(b"binary::from_line"),
-        _ => write_text(b"binary::clues_from_solution"),
+        6 => write_text(b"sp_clue"),
+        7 => write_text(b"sp_clues"),
+        12 => write_text(b"sp_binary_clue"),
+        _ => write_text(b"sp_binary_clues"),
     }
 }
 
@@ -40,61 +37,11 @@ fn write_given(call: u64, picture: Picture, codes: &[u32]) {
     write_list(b" codes", codes);
 }
 
-fn take_line(
-    call: u64,
-    codes: &[u32],
-    blank: u32,
-    sizes: &mut [u32],
-    colours: &mut [u32],
-) -> ListAnswer {
-    match call {
-        6 => multicolor::from_line(codes, blank, sizes, colours),
-        _ => binary::from_line(codes, blank, sizes),
-    }
-}
-
 fn show_line(call: u64, codes: &[u32], blank: u32, sizes: &mut [u32], colours: &mut [u32]) {
-    write_entries(take_line(call, codes, blank, sizes, colours));
+    write_count(calls::take_line(call, codes, blank, sizes, colours));
     write_left(b"; sizes", sizes);
     if call == 6 {
         write_left(b"; colours", colours);
-    }
-}
-
-fn take_clues(
-    call: u64,
-    picture: Picture,
-    codes: &[u32],
-    row_counts: &mut [u32],
-    row_sizes: &mut [u32],
-    row_colours: &mut [u32],
-    column_counts: &mut [u32],
-    column_sizes: &mut [u32],
-    column_colours: &mut [u32],
-) -> CluesAnswer {
-    match call {
-        7 => multicolor::clues_from_solution(
-            picture.width,
-            picture.height,
-            codes,
-            picture.blank,
-            row_counts,
-            row_sizes,
-            row_colours,
-            column_counts,
-            column_sizes,
-            column_colours,
-        ),
-        _ => binary::clues_from_solution(
-            picture.width,
-            picture.height,
-            codes,
-            picture.blank,
-            row_counts,
-            row_sizes,
-            column_counts,
-            column_sizes,
-        ),
     }
 }
 
@@ -120,7 +67,7 @@ fn show_grid(
     column_sizes: &mut [u32],
     column_colours: &mut [u32],
 ) {
-    write_totals(take_clues(
+    write_totals(calls::take_clues(
         call,
         picture,
         codes,

@@ -1,8 +1,6 @@
 // Shows the calls that solve a line. A case has the rooms of memo and output, cells, sizes and colours (none where the line is binary).
-use line::LineAnswer;
-use line::answer_number;
-use line::binary;
-use line::multicolor;
+use crate::answers::write_answer;
+use cases::calls;
 use vectors::bytes;
 use vectors::lists;
 use vectors::reader::Reader;
@@ -37,38 +35,24 @@ fn read_rooms(buffer: &mut [u8], reader: Reader) -> Rooms {
 
 fn write_given(call: u64, cells: &[u32], sizes: &[u32], colours: &[u32], rooms: Rooms) {
     if call == 14 {
-        write_list(b"multicolor::solve cells", cells);
+        write_list(b"sp_solve_line cells", cells);
         write_list(b" sizes", sizes);
         write_list(b" colours", colours);
     } else {
-        write_list(b"binary::solve cells", cells);
+        write_list(b"sp_solve_binary_line cells", cells);
         write_list(b" sizes", sizes);
     }
     write_text(b" memo");
     write_number(rooms.memo as u64);
 }
 
-fn solve(
-    call: u64,
-    cells: &[u32],
-    sizes: &[u32],
-    colours: &[u32],
-    memo: &mut [u8],
-    out: &mut [u32],
-) -> LineAnswer {
-    match call {
-        14 => multicolor::solve(cells, sizes, colours, memo, out),
-        _ => binary::solve(cells, sizes, memo, out),
-    }
-}
-
-// The answer's number and what it leaves: of the memo only a refusal by checking says what that is.
-fn write_answer(answer: LineAnswer, memo: &[u8], out: &[u32]) {
-    write_text(b" ->");
-    write_number(lists::widen(answer_number(answer)));
+// The number and what it leaves: of the memo only a refusal by checking says what that is.
+fn write_left_of(number: u32, memo: &[u8], out: &[u32]) {
+    write_answer(number);
     write_left(b"; out", out);
-    if let LineAnswer::Refused(_) = answer {
-        write_left_bytes(b"; memo", TURN, memo);
+    match number {
+        0 | 8 => {}
+        _ => write_left_bytes(b"; memo", TURN, memo),
     }
 }
 
@@ -80,8 +64,8 @@ fn show_line(
     memo: &mut [u8],
     out: &mut [u32],
 ) {
-    let answer = solve(call, cells, sizes, colours, memo, out);
-    write_answer(answer, memo, out);
+    let number = calls::solve(call, cells, sizes, colours, memo, out);
+    write_left_of(number, memo, out);
 }
 
 // Lends as much room as the case says.

@@ -1,11 +1,10 @@
 // Shows the runs. A case has the rooms of memo and stack, then a card: its point is 0, 0 in a full run, and binary blocks have no colours.
+use crate::answers::write_answer;
 use cases::Ends;
 use cases::Head;
-use cases::calls;
 use cases::part;
-use rules::LinePosition;
-use run::RunAnswer;
-use run::answer_number;
+use cases::runs::run;
+use device::runs::RunReply;
 use vectors::bytes;
 use vectors::lists;
 use vectors::reader::Reader;
@@ -41,10 +40,10 @@ fn read_rooms(buffer: &mut [u8], reader: Reader) -> Rooms {
 
 fn write_name(call: u64) {
     match call {
-        16 => write_text(b"multicolor::run"),
-        17 => write_text(b"multicolor::run_point"),
-        18 => write_text(b"binary::run"),
-        _ => write_text(b"binary::run_point"),
+        16 => write_text(b"sp_run"),
+        17 => write_text(b"sp_run_point"),
+        18 => write_text(b"sp_run_binary"),
+        _ => write_text(b"sp_run_binary_point"),
     }
 }
 
@@ -104,43 +103,37 @@ fn write_given(call: u64, head: Head, ends: Ends, rooms: Rooms, grid: &[u32], cl
     write_named(b" stack", rooms.stack);
 }
 
-fn write_line(line: LinePosition) {
-    match line {
-        LinePosition::Row(y) => write_named(b" at row", y.0),
-        LinePosition::Column(x) => write_named(b" at column", x.0),
+// With 8, the line that refused.
+fn write_line(reply: RunReply) {
+    match reply.line_kind {
+        0 => write_named(b" at row", reply.line_index),
+        1 => write_named(b" at column", reply.line_index),
+        _ => {}
     }
 }
 
 // Report entries and lines solved.
-fn write_counts(entries: usize, lines: usize) {
-    write_named(b",", entries);
-    write_number(lines as u64);
+fn write_counts(reply: RunReply) {
+    write_named(b",", reply.entries);
+    write_number(reply.lines as u64);
 }
 
-fn write_answer(answer: RunAnswer) {
-    write_text(b" ->");
-    write_number(lists::widen(answer_number(answer)));
-    match answer {
-        RunAnswer::Done { entries, lines } => write_counts(entries, lines),
-        RunAnswer::Unsolvable {
-            line,
-            entries,
-            lines,
-        } => {
-            write_line(line);
-            write_counts(entries, lines);
-        }
-        RunAnswer::Refused(_) => {}
+// What a run answers and leaves: of memo and stack only a refusal by checking says what that is, and it has no counts.
+fn write_rest(reply: RunReply, grid: &[u32], report: &[u32], memo: &[u8], stack: &[u32]) {
+    write_answer(reply.number);
+    write_line(reply);
+    match reply.number {
+        0 | 8 => write_counts(reply),
+        _ => {}
     }
-}
-
-// What a run leaves: of memo and stack only a refusal by checking says what that is.
-fn write_rest(answer: RunAnswer, grid: &[u32], report: &[u32], memo: &[u8], stack: &[u32]) {
     write_list(b"; grid", grid);
     write_left_long(b"; report", report);
-    if let RunAnswer::Refused(_) = answer {
-        write_left_bytes(b"; memo", TURN, memo);
-        write_left(b"; stack", stack);
+    match reply.number {
+        0 | 8 => {}
+        _ => {
+            write_left_bytes(b"; memo", TURN, memo);
+            write_left(b"; stack", stack);
+        }
     }
     write_text(b"\n");
 }
@@ -155,9 +148,8 @@ fn show_run(
     memo: &mut [u8],
     stack: &mut [u32],
 ) {
-    let answer = calls::run(call, head, ends, grid, clues, report, memo, stack);
-    write_answer(answer);
-    write_rest(answer, grid, report, memo, stack);
+    let reply = run(call, head, ends, grid, clues, report, memo, stack);
+    write_rest(reply, grid, report, memo, stack);
 }
 
 // Lends as much room as the case says.

@@ -1,9 +1,9 @@
 // Replays the calls on blocks. A case has a length, sizes and colours, then the answer's value and four lists, of 32 and of 64 bits:
 // a call takes and writes those that it has, and the others are 0 and empty.
-use block::NumberAnswer;
-use block::binary;
-use block::multicolor;
-use rules::ListAnswer;
+use cases::calls;
+use device::blocks::PositionsReply;
+use device::blocks::sp_color_ranges;
+use device::count::CountReply;
 use vectors::lists;
 use vectors::lists::Found;
 use vectors::reader::Reader;
@@ -12,17 +12,17 @@ use vectors::reader::demand;
 // A value that no call of a case answers.
 const NO_VALUE: u64 = u64::MAX;
 
-fn value_of(answer: ListAnswer) -> u64 {
-    match answer {
-        ListAnswer::Done { entries } => entries as u64,
-        ListAnswer::Refused(_) => NO_VALUE,
+fn value_of(reply: CountReply) -> u64 {
+    match reply.number {
+        0 => reply.count as u64,
+        _ => NO_VALUE,
     }
 }
 
-fn number_of(answer: NumberAnswer) -> u64 {
-    match answer {
-        NumberAnswer::Number(number) => number,
-        NumberAnswer::Refused(_) => NO_VALUE,
+fn positions_of(reply: PositionsReply) -> u64 {
+    match reply.number {
+        0 => reply.positions,
+        _ => NO_VALUE,
     }
 }
 
@@ -37,15 +37,10 @@ fn call_blocks(
     more_sums: &mut [u64],
 ) -> u64 {
     match call {
-        1 => value_of(multicolor::partial_sums(sizes, colours, sums)),
-        2 => value_of(multicolor::block_starts(sizes, colours, sums)),
-        3 => number_of(multicolor::positions_number(length, sizes, colours)),
-        4 => value_of(multicolor::color_ranges(length, sizes, colours, codes, sums, more_sums)),
-        5 => value_of(multicolor::description_new(sizes, colours, codes, more_codes)),
-        8 => value_of(binary::partial_sums(sizes, sums)),
-        9 => value_of(binary::block_starts(sizes, sums)),
-        10 => number_of(binary::positions_number(length, sizes)),
-        _ => value_of(binary::description_new(sizes, codes)),
+        3 | 10 => positions_of(calls::count_positions(call, length, sizes, colours)),
+        4 => value_of(sp_color_ranges(length, sizes, colours, codes, sums, more_sums)),
+        5 | 11 => value_of(calls::describe(call, sizes, colours, codes, more_codes)),
+        _ => value_of(calls::pack(call, sizes, colours, sums)),
     }
 }
 

@@ -1,13 +1,15 @@
 // Replays the calls for clues. A case has a width and a height (0 for a line), a blank code and codes, then how many blocks the rows
 // have and the columns, and counts, sizes and colours of each direction. A line's clue stands in the rows' sizes and colours.
-use clue::CluesAnswer;
-use clue::binary;
-use clue::multicolor;
-use rules::ListAnswer;
+use cases::calls;
+use device::clues::CluesReply;
+use device::count::CountReply;
 use vectors::lists;
 use vectors::lists::Found;
 use vectors::lists::Picture;
 use vectors::reader::Reader;
+
+// A total that no call of a case answers.
+const NO_TOTAL: u64 = u64::MAX;
 
 // How many blocks a call wrote for the rows and for the columns.
 struct Totals {
@@ -15,32 +17,25 @@ struct Totals {
     columns: u64,
 }
 
-// Totals that no call of a case answers.
-fn refused() -> Totals {
-    Totals {
-        rows: u64::MAX,
-        columns: u64::MAX,
-    }
-}
-
-fn line_totals(answer: ListAnswer) -> Totals {
-    match answer {
-        ListAnswer::Done { entries } => Totals {
-            rows: entries as u64,
-            columns: 0,
-        },
-        ListAnswer::Refused(_) => refused(),
-    }
-}
-
-fn grid_totals(answer: CluesAnswer) -> Totals {
-    match answer {
-        CluesAnswer::Done { rows, columns } => Totals {
+fn totals_of(number: u32, rows: usize, columns: usize) -> Totals {
+    match number {
+        0 => Totals {
             rows: rows as u64,
             columns: columns as u64,
         },
-        CluesAnswer::Refused(_) => refused(),
+        _ => Totals {
+            rows: NO_TOTAL,
+            columns: NO_TOTAL,
+        },
     }
+}
+
+fn line_totals(reply: CountReply) -> Totals {
+    totals_of(reply.number, reply.count, 0)
+}
+
+fn grid_totals(reply: CluesReply) -> Totals {
+    totals_of(reply.number, reply.rows, reply.columns)
 }
 
 fn call_clues(
@@ -55,29 +50,17 @@ fn call_clues(
     column_colours: &mut [u32],
 ) -> Totals {
     match call {
-        6 => line_totals(multicolor::from_line(codes, picture.blank, row_sizes, row_colours)),
-        12 => line_totals(binary::from_line(codes, picture.blank, row_sizes)),
-        7 => grid_totals(multicolor::clues_from_solution(
-            picture.width,
-            picture.height,
+        6 | 12 => line_totals(calls::take_line(call, codes, picture.blank, row_sizes, row_colours)),
+        _ => grid_totals(calls::take_clues(
+            call,
+            picture,
             codes,
-            picture.blank,
             row_counts,
             row_sizes,
             row_colours,
             column_counts,
             column_sizes,
             column_colours,
-        )),
-        _ => grid_totals(binary::clues_from_solution(
-            picture.width,
-            picture.height,
-            codes,
-            picture.blank,
-            row_counts,
-            row_sizes,
-            column_counts,
-            column_sizes,
         )),
     }
 }

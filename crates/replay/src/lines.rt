@@ -1,9 +1,6 @@
 // Replays the calls that solve a line. A case has cells, sizes and colours (none where the line is binary), then the answer's number and
 // the output, which is empty with 8: then nothing may be written.
-use line::LineAnswer;
-use line::answer_number;
-use line::binary;
-use line::multicolor;
+use cases::calls;
 use vectors::bytes;
 use vectors::lists;
 use vectors::lists::Found;
@@ -11,24 +8,6 @@ use vectors::reader::Reader;
 
 // The least memo that a line can be solved with.
 const MEMO: usize = 4160;
-
-fn number_of(answer: LineAnswer) -> u64 {
-    lists::widen(answer_number(answer))
-}
-
-fn call_line(
-    call: u64,
-    cells: &[u32],
-    sizes: &[u32],
-    colours: &[u32],
-    memo: &mut [u8],
-    out: &mut [u32],
-) -> u64 {
-    match call {
-        14 => number_of(multicolor::solve(cells, sizes, colours, memo, out)),
-        _ => number_of(binary::solve(cells, sizes, memo, out)),
-    }
-}
 
 // Makes the call, and compares.
 fn compare_call(
@@ -41,14 +20,14 @@ fn compare_call(
     buffer: &mut [u8],
     reader: Reader,
 ) -> Found {
-    let number = call_line(call, cells, sizes, colours, memo, out);
+    let number = calls::solve(call, cells, sizes, colours, memo, out);
     let found = lists::compare_number(
         buffer,
         Found {
             differing: 0,
             reader,
         },
-        number,
+        lists::widen(number),
     );
     lists::compare(buffer, found, out)
 }

@@ -90,34 +90,34 @@ fn replay_all(buffer: &mut [u8], cases: &mut [u64], differing: &mut [u64]) -> Re
 }
 
 fn write_coloured(cases: &[u64], differing: &[u64]) {
-    report::write_call(b"multicolor::partial_sums", 1, cases, differing);
-    report::write_call(b"multicolor::block_starts", 2, cases, differing);
-    report::write_call(b"multicolor::positions_number", 3, cases, differing);
-    report::write_call(b"multicolor::color_ranges", 4, cases, differing);
-    report::write_call(b"multicolor::description_new", 5, cases, differing);
-    report::write_call(b"multicolor::from_line", 6, cases, differing);
-    report::write_call(b"multicolor::clues_from_solution", 7, cases, differing);
+    report::write_call(b"sp_partial_sums", 1, cases, differing);
+    report::write_call(b"sp_block_starts", 2, cases, differing);
+    report::write_call(b"sp_positions_number", 3, cases, differing);
+    report::write_call(b"sp_color_ranges", 4, cases, differing);
+    report::write_call(b"sp_description", 5, cases, differing);
+    report::write_call(b"sp_clue", 6, cases, differing);
+    report::write_call(b"sp_clues", 7, cases, differing);
 }
 
 fn write_binary(cases: &[u64], differing: &[u64]) {
-    report::write_call(b"binary::partial_sums", 8, cases, differing);
-    report::write_call(b"binary::block_starts", 9, cases, differing);
-    report::write_call(b"binary::positions_number", 10, cases, differing);
-    report::write_call(b"binary::description_new", 11, cases, differing);
-    report::write_call(b"binary::from_line", 12, cases, differing);
-    report::write_call(b"binary::clues_from_solution", 13, cases, differing);
+    report::write_call(b"sp_binary_partial_sums", 8, cases, differing);
+    report::write_call(b"sp_binary_block_starts", 9, cases, differing);
+    report::write_call(b"sp_binary_positions_number", 10, cases, differing);
+    report::write_call(b"sp_binary_description", 11, cases, differing);
+    report::write_call(b"sp_binary_clue", 12, cases, differing);
+    report::write_call(b"sp_binary_clues", 13, cases, differing);
 }
 
 fn write_lines(cases: &[u64], differing: &[u64]) {
-    report::write_call(b"multicolor::solve", 14, cases, differing);
-    report::write_call(b"binary::solve", 15, cases, differing);
+    report::write_call(b"sp_solve_line", 14, cases, differing);
+    report::write_call(b"sp_solve_binary_line", 15, cases, differing);
 }
 
 fn write_runs(cases: &[u64], differing: &[u64]) {
-    report::write_call(b"multicolor::run", 16, cases, differing);
-    report::write_call(b"multicolor::run_point", 17, cases, differing);
-    report::write_call(b"binary::run", 18, cases, differing);
-    report::write_call(b"binary::run_point", 19, cases, differing);
+    report::write_call(b"sp_run", 16, cases, differing);
+    report::write_call(b"sp_run_point", 17, cases, differing);
+    report::write_call(b"sp_run_binary", 18, cases, differing);
+    report::write_call(b"sp_run_binary_point", 19, cases, differing);
 }
 
 fn main() {

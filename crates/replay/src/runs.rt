@@ -1,11 +1,9 @@
 // Replays the runs. A case has a card (its point is 0, 0 in a full run, and binary blocks have no colours), then the answer's number, the
-// refusing line's kind (0 none, 1 a row, 2 a column) and index, report entries, lines solved, the grid, and the report.
+// refusing line's kind (0 a row, 1 a column, 2 none) and index, report entries, lines solved, the grid, and the report.
 use cases::Ends;
 use cases::Head;
-use cases::calls;
-use rules::LinePosition;
-use run::RunAnswer;
-use run::answer_number;
+use cases::runs::run;
+use device::runs::RunReply;
 use vectors::bytes;
 use vectors::lists;
 use vectors::lists::Found;
@@ -17,64 +15,28 @@ const MEMO: usize = 4160;
 // The least stack of a run.
 const STACK: usize = 128;
 
-// An answer in numbers, as the file has it.
-struct Outcome {
-    number: u64,
-    kind: u64,
-    index: u64,
-    entries: u64,
-    lines: u64,
-}
-
-// What a run answers that ends at a line of that kind and index.
-fn end_at(number: u64, kind: u64, index: usize, entries: usize, lines: usize) -> Outcome {
-    Outcome {
-        number,
-        kind,
-        index: index as u64,
-        entries: entries as u64,
-        lines: lines as u64,
-    }
-}
-
-fn outcome_of(answer: RunAnswer) -> Outcome {
-    let number = lists::widen(answer_number(answer));
-    match answer {
-        RunAnswer::Done { entries, lines } => end_at(number, 0, 0, entries, lines),
-        RunAnswer::Unsolvable {
-            line,
-            entries,
-            lines,
-        } => match line {
-            LinePosition::Row(y) => end_at(number, 1, y.0, entries, lines),
-            LinePosition::Column(x) => end_at(number, 2, x.0, entries, lines),
-        },
-        RunAnswer::Refused(_) => end_at(number, 0, 0, 0, 0),
-    }
-}
-
-fn compare_outcome(buffer: &mut [u8], reader: Reader, outcome: Outcome) -> Found {
+fn compare_reply(buffer: &mut [u8], reader: Reader, reply: RunReply) -> Found {
     let found = Found {
         differing: 0,
         reader,
     };
-    let found = lists::compare_number(buffer, found, outcome.number);
-    let found = lists::compare_number(buffer, found, outcome.kind);
-    let found = lists::compare_number(buffer, found, outcome.index);
-    let found = lists::compare_number(buffer, found, outcome.entries);
-    lists::compare_number(buffer, found, outcome.lines)
+    let found = lists::compare_number(buffer, found, lists::widen(reply.number));
+    let found = lists::compare_number(buffer, found, lists::widen(reply.line_kind));
+    let found = lists::compare_number(buffer, found, reply.line_index as u64);
+    let found = lists::compare_number(buffer, found, reply.entries as u64);
+    lists::compare_number(buffer, found, reply.lines as u64)
 }
 
 // Compares an answer and what it leaves. The report was lent from `first` on.
 fn compare_rest(
     buffer: &mut [u8],
     reader: Reader,
-    outcome: Outcome,
+    reply: RunReply,
     grid: &[u32],
     first: usize,
     report: &[u32],
 ) -> Found {
-    let found = compare_outcome(buffer, reader, outcome);
+    let found = compare_reply(buffer, reader, reply);
     let found = lists::compare(buffer, found, grid);
     lists::compare_from(buffer, found, first, report)
 }
@@ -90,9 +52,9 @@ fn make_run(
     report: &mut [u32],
     memo: &mut [u8],
     stack: &mut [u32],
-) -> Outcome {
+) -> RunReply {
     let start = lists::within(first, report);
-    outcome_of(calls::run(
+    run(
         call,
         head,
         ends,
@@ -101,7 +63,7 @@ fn make_run(
         &mut report[start..],
         memo,
         stack,
-    ))
+    )
 }
 
 fn compare_run(
@@ -117,8 +79,8 @@ fn compare_run(
     buffer: &mut [u8],
     reader: Reader,
 ) -> Found {
-    let outcome = make_run(call, head, ends, grid, clues, first, report, memo, stack);
-    compare_rest(buffer, reader, outcome, grid, first, report)
+    let reply = make_run(call, head, ends, grid, clues, first, report, memo, stack);
+    compare_rest(buffer, reader, reply, grid, first, report)
 }
 
 // Lends the least memo and stack, and the report's least room with up to three entries more. What they hold goes by the case's number.
