@@ -105,7 +105,8 @@ fn write_given(call: u64, head: Head, ends: Ends, rooms: Rooms, grid: &[u32], cl
 
 // With 8, the line that refused.
 fn write_line(reply: RunReply) {
-    match reply.line_kind {
+    let kind = reply.line_kind;
+    match kind {
         0 => write_named(b" at row", reply.line_index),
         1 => write_named(b" at column", reply.line_index),
         _ => {}
@@ -120,15 +121,16 @@ fn write_counts(reply: RunReply) {
 
 // What a run answers and leaves: of memo and stack only a refusal by checking says what that is, and it has no counts.
 fn write_rest(reply: RunReply, grid: &[u32], report: &[u32], memo: &[u8], stack: &[u32]) {
-    write_answer(reply.number);
+    let number = reply.number;
+    write_answer(number);
     write_line(reply);
-    match reply.number {
+    match number {
         0 | 8 => write_counts(reply),
         _ => {}
     }
     write_list(b"; grid", grid);
     write_left_long(b"; report", report);
-    match reply.number {
+    match number {
         0 | 8 => {}
         _ => {
             write_left_bytes(b"; memo", TURN, memo);

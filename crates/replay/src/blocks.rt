@@ -13,14 +13,16 @@ use vectors::reader::demand;
 const NO_VALUE: u64 = u64::MAX;
 
 fn value_of(reply: CountReply) -> u64 {
-    match reply.number {
+    let number = reply.number;
+    match number {
         0 => reply.count as u64,
         _ => NO_VALUE,
     }
 }
 
 fn positions_of(reply: PositionsReply) -> u64 {
-    match reply.number {
+    let number = reply.number;
+    match number {
         0 => reply.positions,
         _ => NO_VALUE,
     }
