@@ -1,16 +1,18 @@
 #!/bin/bash
-# Proves the device library and builds it for riscv64 from the same module as for x86-64: OUT/libdevice.a.
-# It needs the Rattle kit alone. To link and run a program over it: gcc-riscv64-linux-gnu, libc6-dev-riscv64-cross, qemu-user.
-# Usage: build.sh OUT
+# Proves the device library, and the programs that are named, and builds them for riscv64 from the same modules as for x86-64:
+# OUT/libdevice.a and, for each program, OUT/PROGRAM.o. What x86-64 gets is left under target/ as always.
+# It needs the Rattle kit alone. To link and run: gcc-riscv64-linux-gnu, libc6-dev-riscv64-cross, qemu-user.
+# Usage: build.sh OUT [PROGRAM ...]
 set -eu
-if [ $# -ne 1 ]; then
-  echo "usage: $0 OUT" >&2
+if [ $# -lt 1 ]; then
+  echo "usage: $0 OUT [PROGRAM ...]" >&2
   exit 2
 fi
 here=$(cd "$(dirname "$0")" && pwd)
 kit=$(cd "$(dirname "$(readlink -f "$(command -v rt)")")/.." && pwd)
 mkdir -p "$1"
 out=$(cd "$1" && pwd)
+shift
 tools=$out/kit/on/x86_64/toolchain
 
 # A second home for rt: links into the kit, but for the compiler.
@@ -23,7 +25,21 @@ for t in ld.lld llvm-ar; do ln -s "$kit/on/x86_64/toolchain/bin/$t" "$tools/bin/
 sed -e "s,@KIT@,$kit,g" -e "s,@OUT@,$out,g" "$here/compiler.sh" > "$tools/bin/clang"
 chmod +x "$tools/bin/clang"
 
-rm -f "$out/module.o" "$out/libdevice.a"
-(cd "$here/../.." && RATTLE_HOME=$out/kit rt staticlib device)
-"$tools/bin/llvm-ar" rcs "$out/libdevice.a" "$out/module.o"
-echo "$out/libdevice.a"
+# Runs rt with its words, and keeps under the crate's name what the compiler made: the module for both machines, the object and the frames.
+build() { # NAME WORDS
+  local name=$1 part
+  shift
+  rm -f "$out"/module.* "$out/$name".*
+  RATTLE_HOME=$out/kit rt "$@"
+  for part in x86_64.ll riscv64.ll o su; do mv "$out/module.$part" "$out/$name.$part"; done
+}
+
+cd "$here/../.."
+rm -f "$out/libdevice.a"
+build device staticlib device
+"$tools/bin/llvm-ar" rcs "$out/libdevice.a" "$out/device.o"
+for program in "$@"; do
+  # A program that rt has proved already is not compiled again: it is told to forget that.
+  rm -f "target/stamp/$program"
+  build "$program" check "$program"
+done
