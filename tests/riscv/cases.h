@@ -41,6 +41,8 @@ static size_t below(size_t n) { return draw() % n; }
 
 static bool one_in(size_t n) { return below(n) == 0; }
 
+static size_t draw_length(void) { return one_in(4) ? 1 + below(6) : 1 + below(SIDE); }
+
 // Mostly small.
 static size_t draw_side(void) {
   if (one_in(2)) return 1 + below(6);
@@ -113,7 +115,7 @@ static void paint(size_t count) {
 
 // Paints a line, and tells its length.
 static size_t paint_line(bool black) {
-  size_t length = draw_side();
+  size_t length = draw_length();
   choose_inks(black);
   paint(length);
   return length;
