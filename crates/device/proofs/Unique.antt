@@ -40,8 +40,8 @@ pub ranges-one : (n : ℕ) (l : Lent) {colours from to x y z x′ y′ z′ : Li
 ranges-one n l p q = let t = color-ranges n l (p .says) (q .says) in (told-one p q (t .0), t .1, t .2, t .3)
 
 -- both kinds
-pub positions-one : {n : ℕ} {l : Lent} {a b : PositionsReply} → Told tellPositions (PositionsNumber n l) a → Told tellPositions (PositionsNumber n l) b
-    → a ≡ b
+pub positions-one : {n : ℕ} {l : Lent} {a b : PositionsReply} → Told tellPositions (PositionsNumber n l) a
+    → Told tellPositions (PositionsNumber n l) b → a ≡ b
 positions-one p q = told-one p q (positions-number (p .says) (q .says))
 
 pub binary-clues-one : (e w h : ℕ) (g : List ℕ) {rc rs cc cs x y z u x′ y′ z′ u′ : List ℕ} {a b : CluesReply}

@@ -55,7 +55,7 @@ pub extern "C" fn sp_positions_number(
     sizes: &[u32],
     colours: &[u32],
 ) -> PositionsReply
-    ensures { λ r. ⌜ Told tellPositions (λ a. PositionsNumber length (coloured (now (sizes .entry)) (now (colours .entry))) a) r ⌝ }
+    ensures { λ r. ⌜ Told tellPositions (PositionsNumber length (coloured (now (sizes .entry)) (now (colours .entry)))) r ⌝ }
 {
     tell_positions(positions::multicolor::positions_number(length, sizes, colours))
 }
@@ -114,7 +114,7 @@ pub extern "C" fn sp_binary_block_starts(sizes: &[u32], starts: &mut [u64]) -> C
 // In how many places it lies in the line.
 #[no_mangle]
 pub extern "C" fn sp_binary_positions_number(length: usize, sizes: &[u32]) -> PositionsReply
-    ensures { λ r. ⌜ Told tellPositions (λ a. PositionsNumber length (binary (now (sizes .entry))) a) r ⌝ }
+    ensures { λ r. ⌜ Told tellPositions (PositionsNumber length (binary (now (sizes .entry)))) r ⌝ }
 {
     tell_positions(positions::binary::positions_number(length, sizes))
 }

@@ -2,10 +2,11 @@
 use mathlib.Core.Path.{_≡_, refl, sym, ap, ap₂, _∙_, subst}
 use mathlib.Core.Bool.{Bool, true, false, cond}
 use mathlib.Core.Logic.{_⊎_, inl, inr, ⊎-elim, _≢_}
-use mathlib.Core.List.{List, [], _∷_, map, List·Memᴰ, List·Memᴰ·head, List·Memᴰ·tail, List·Memᴰ·not-nil, List·Memᴰ·cases-cons, List·Memᴰ·append-cases, Memᴰ·cast, Memᴰ·append-left, Memᴰ·append-right}
+use mathlib.Core.List.{List, [], _∷_, _++_, map, List·Memᴰ, List·Memᴰ·head, List·Memᴰ·tail, List·Memᴰ·not-nil, List·Memᴰ·cases-cons, List·Memᴰ·append-cases, Memᴰ·cast, Memᴰ·append-left, Memᴰ·append-right}
 use Prim.Native.Nat.{ℕ, zero, suc, _+_, _≤_, _<_}
 use native.Mathlib.Nat.{add-zero, zero-add, not-suc-le-zero, le-of-suc-le-suc}
 use native.Mathlib.Omega.{arith}
+use borrow.Author.Tests.{ne-eqb}
 use lib.Dec.{leb, eqb}
 use lib.ListN.{length, getD, length-append, length-reverse, length-map}
 use Rattle.rules.specs.declared.LinePosition.{LinePosition}
@@ -54,6 +55,18 @@ length-remove l (x ∷ st) = go (sameLine l x) (length-remove l st)
     go : (b : Bool) → length (remove l st) ≤ length st → length (cond b (remove l st) (x ∷ remove l st)) ≤ suc (length st)
     go true h = omega arith
     go false h = omega arith
+
+same-cross : (l : LinePosition) (i j : ℕ) → sameLine (cross l i) (cross l j) ≡ eqb i j
+same-cross (Row y) i j = refl
+same-cross (Column x) i j = refl
+
+-- a crossing line is removed below those of other indexes
+pub remove-past : (l : LinePosition) (j : ℕ) (js : List ℕ) (st : List LinePosition) → (List·Memᴰ j js → ⊥)
+    → remove (cross l j) (map (cross l) js ++ st) ≡ map (cross l) js ++ remove (cross l j) st
+remove-past l j [] st d = refl
+remove-past l j (i ∷ js) st d =
+    rw (same-cross l j i, ne-eqb j i (λ e. d (List·Memᴰ·head e)))
+    (ap (λ (t : List LinePosition). cross l i ∷ t) (remove-past l j js st (λ u. d (List·Memᴰ·tail u))))
 
 pub mem-push : {k : LinePosition} (l : LinePosition) {st : List LinePosition} → List·Memᴰ k st → List·Memᴰ k (push l st)
 mem-push {k} l {st} m = go (line-cases k l)
