@@ -13,19 +13,10 @@ mkdir -p "$2"
 out=$(cd "$2" && pwd)
 . "$here/lay_out.sh"
 
-# Makes the one unstable sort stable, and fails if there is not exactly one.
-make_stable() {
-  if [ "$(grep -c 'sort_unstable' "$1")" -ne 1 ]; then
-    echo "$0: $1 has not exactly one unstable sort" >&2
-    exit 1
-  fi
-  sed -i 's/sort_unstable_by_key(/sort_by_key(/' "$1"
-}
-
 for kind in untouched stable; do
   work=$out/build-$kind
-  lay_out "$crate" "$work" driver "$here/driver.rs" "$here/trace.rs"
-  if [ $kind = stable ]; then make_stable "$work/src/solver/propagation.rs"; fi
+  lay_out "$crate" "$work" "$here/driver.rs"
+  if [ $kind = stable ]; then make_stable "$work"; fi
   (cd "$work" && cargo build --release --offline -j1)
   cp "$work/target/release/driver" "$out/driver-$kind"
 done

@@ -1,5 +1,5 @@
 //! What a run did, read off the crate's own debug lines: the order of lines, the changed cells, and how many lines were solved.
-use std::cell::RefCell;
+use std::{cell::RefCell, fmt};
 
 /// A row ('r') or a column ('c') with its index.
 pub type Line = (char, usize);
@@ -25,12 +25,7 @@ pub fn install() {
 
 /// Forgets what was seen, and records from now on.
 pub fn start() {
-    TRACE.with(|t| {
-        *t.borrow_mut() = Trace {
-            on: true,
-            ..Trace::default()
-        }
-    });
+    TRACE.with(|t| *t.borrow_mut() = Trace { on: true, ..Trace::default() });
 }
 
 /// Hands out what was seen since `start`, and records no more.
@@ -40,11 +35,8 @@ pub fn take() -> Trace {
 
 /// Reads `Row(3)` or `Column(3)` at the front of a text.
 fn parse_line(s: &str) -> Option<(Line, &str)> {
-    let (direction, rest) = if let Some(r) = s.strip_prefix("Row(") {
-        ('r', r)
-    } else {
-        ('c', s.strip_prefix("Column(")?)
-    };
+    let (direction, rest) =
+        if let Some(r) = s.strip_prefix("Row(") { ('r', r) } else { ('c', s.strip_prefix("Column(")?) };
     let end = rest.find(')')?;
     Some(((direction, rest[..end].parse().ok()?), &rest[end + 1..]))
 }
@@ -67,6 +59,24 @@ impl Trace {
     }
 }
 
+/// A message, taken up no further than it can be one that `record` reads: the others are long, and many.
+#[derive(Default)]
+struct Message(String);
+
+impl fmt::Write for Message {
+    fn write_str(&mut self, text: &str) -> fmt::Result {
+        self.0.push_str(text);
+        let starts = ["Solving ", "New info on ", "Lines solved: "];
+        let known = starts.iter().any(|start| self.0.starts_with(start));
+        let whole_line = self.0.starts_with(starts[0]) && self.0.ends_with(": ");
+        if known && !whole_line {
+            Ok(())
+        } else {
+            Err(fmt::Error)
+        }
+    }
+}
+
 impl log::Log for Capture {
     fn enabled(&self, _: &log::Metadata) -> bool {
         true
@@ -78,8 +88,9 @@ impl log::Log for Capture {
         }
         TRACE.with(|t| {
             let mut t = t.borrow_mut();
-            if t.on {
-                t.record(&r.args().to_string());
+            let mut message = Message::default();
+            if t.on && fmt::write(&mut message, *r.args()).is_ok() {
+                t.record(&message.0);
             }
         });
     }

@@ -1,4 +1,4 @@
-//! What the measurements share: numbers at random from one seed, colours, binary cells as numbers, and the means of a table.
+//! What the measurements share: the seed, the colours, binary cells as numbers, the rows of the table and its means.
 use nonogrid::block::binary::BinaryColor;
 
 pub const SEED: u64 = 7303;
@@ -6,18 +6,12 @@ pub const COLOURS: [u32; 4] = [2, 4, 8, 16];
 /// A cell that can have each of the colours or be blank.
 pub const OPEN: u32 = 31;
 
-/// SplitMix64.
-pub struct Random(pub u64);
-
-impl Random {
-    pub fn next(&mut self) -> u64 {
-        self.0 = self.0.wrapping_add(0x9e37_79b9_7f4a_7c15);
-        let a = (self.0 ^ (self.0 >> 30)).wrapping_mul(0xbf58_476d_1ce4_e5b9);
-        let b = (a ^ (a >> 27)).wrapping_mul(0x94d0_49bb_1331_11eb);
-        b ^ (b >> 31)
-    }
-    pub fn below(&mut self, n: usize) -> usize {
-        (self.next() % n as u64) as usize
+/// The colours of a kind of row.
+pub fn palette(kind: &str) -> &'static [u32] {
+    if kind == "binary" {
+        &[2]
+    } else {
+        &COLOURS
     }
 }
 
@@ -36,28 +30,52 @@ pub fn codes(cells: &[BinaryColor]) -> Vec<u32> {
 
 /// The number of rounds, the program's one argument.
 pub fn rounds() -> usize {
-    std::env::args()
-        .nth(1)
-        .map_or(100, |w| w.parse().expect("a number of rounds"))
+    std::env::args().nth(1).map_or(100, |w| w.parse().expect("a number of rounds"))
 }
 
-/// The factors of a column.
-#[derive(Default)]
-pub struct Factors(Vec<f64>);
+/// What a row measures: a line or a run, its cells, their kind, the blocks or the picture, and what is known at the start.
+pub struct Measured<'a> {
+    pub what: &'a str,
+    pub cells: String,
+    pub kind: &'a str,
+    pub shape: &'a str,
+    pub known: &'a str,
+}
 
-impl Factors {
-    /// The factor of two times, noted.
-    pub fn note(&mut self, theirs: f64, ours: f64) -> f64 {
-        self.0.push(theirs / ours);
-        theirs / ours
+/// The factors of the rows: the crate's time over the port's, without and with its cache. A line has no cache.
+#[derive(Default)]
+pub struct Table {
+    plain: Vec<f64>,
+    cached: Vec<f64>,
+}
+
+fn geometric_mean(factors: &[f64]) -> f64 {
+    (factors.iter().map(|f| f.ln()).sum::<f64>() / factors.len() as f64).exp()
+}
+
+fn least(factors: &[f64]) -> f64 {
+    factors.iter().copied().fold(f64::MAX, f64::min)
+}
+
+impl Table {
+    /// Prints a row, times in microseconds.
+    pub fn row(&mut self, measured: &Measured, theirs: f64, with_cache: Option<f64>, ours: f64) {
+        let Measured { what, cells, kind, shape, known } = measured;
+        self.plain.push(theirs / ours);
+        self.cached.extend(with_cache.map(|time| time / ours));
+        let factor = theirs / ours;
+        let cached = with_cache.map_or(String::new(), |time| format!("{time:.3}"));
+        let other = with_cache.map_or(String::new(), |time| format!("{:.2}", time / ours));
+        print!("| {what} | {cells} | {kind} | {shape} | {known} ");
+        println!("| {theirs:.3} | {cached} | {ours:.3} | {factor:.2} | {other} |");
     }
-    pub fn rows(&self) -> usize {
-        self.0.len()
-    }
-    pub fn geometric_mean(&self) -> f64 {
-        (self.0.iter().map(|f| f.ln()).sum::<f64>() / self.0.len() as f64).exp()
-    }
-    pub fn least(&self) -> f64 {
-        self.0.iter().copied().fold(f64::MAX, f64::min)
+    /// Tells the means beside the table, on standard error.
+    pub fn tell(&self, what: &str, how: &str) {
+        let (rows, mean, low) = (self.plain.len(), geometric_mean(&self.plain), least(&self.plain));
+        eprint!("{what}: {rows} rows, crate / port {mean:.2} in the geometric mean, {low:.2} at least");
+        if !self.cached.is_empty() {
+            eprint!("; with its cache {:.2} and {:.2}", geometric_mean(&self.cached), least(&self.cached));
+        }
+        eprintln!(". Seed {SEED}, {how}.");
     }
 }

@@ -1,4 +1,4 @@
-//! One line solved by the crate and by the port, in one process and on the same inputs: a table of nanoseconds a line.
+//! One line solved by the crate and by the port, in one process and on the same inputs: rows of microseconds a line.
 //! Usage: lines [ROUNDS]. Each number is the least of that many rounds over the row's lines; both answers are compared first.
 #![allow(warnings)]
 use std::{hint::black_box, time::Instant};
@@ -14,32 +14,13 @@ use nonogrid::{
 };
 
 mod common;
-use common::{codes, rounds, Factors, Random, COLOURS, OPEN, SEED};
-
-extern "C" {
-    fn sp_solve_line(
-        cells: *const u32,
-        cells_len: usize,
-        sizes: *const u32,
-        sizes_len: usize,
-        colours: *const u32,
-        colours_len: usize,
-        memo: *mut u8,
-        memo_len: usize,
-        out: *mut u32,
-        out_len: usize,
-    ) -> u32;
-    fn sp_solve_binary_line(
-        cells: *const u32,
-        cells_len: usize,
-        sizes: *const u32,
-        sizes_len: usize,
-        memo: *mut u8,
-        memo_len: usize,
-        out: *mut u32,
-        out_len: usize,
-    ) -> u32;
-}
+#[path = "../drawing.rs"]
+mod drawing;
+#[path = "../../examples/rust/scorepuddle.rs"]
+mod scorepuddle;
+use common::{codes, palette, rounds, Measured, Table, OPEN, SEED};
+use drawing::{place, space, Random};
+use scorepuddle::{sp_solve_binary_line, sp_solve_line, MEMO_BYTES};
 
 const LINES: usize = 24;
 const REPEATS: usize = 8;
@@ -51,14 +32,8 @@ struct Case {
     colours: Vec<u32>,
 }
 
-/// The least space of blocks.
-fn space(sizes: &[u32], colours: &[u32]) -> usize {
-    let gaps = colours.windows(2).filter(|w| w[0] == w[1]).count();
-    sizes.iter().sum::<u32>() as usize + gaps
-}
-
 /// Blocks of the shape: sparse fills about a quarter of the line with short ones, dense nearly all of it, long has a few long ones.
-fn blocks(random: &mut Random, shape: &str, length: usize, binary: bool) -> (Vec<u32>, Vec<u32>) {
+fn blocks(random: &mut Random, shape: &str, length: usize, palette: &[u32]) -> (Vec<u32>, Vec<u32>) {
     let (limit, least, most) = match shape {
         "sparse" => (length / 3, 1, 3),
         "dense" => (length - length / 8, 1, 4),
@@ -67,7 +42,7 @@ fn blocks(random: &mut Random, shape: &str, length: usize, binary: bool) -> (Vec
     };
     let (mut sizes, mut colours): (Vec<u32>, Vec<u32>) = (vec![], vec![]);
     while shape != "ones" || sizes.len() < length / 4 {
-        let colour = if binary { 2 } else { COLOURS[random.below(4)] };
+        let colour = random.colour(palette);
         let size = least.max(1) + random.below(most.max(1) - least.max(1) + 1);
         sizes.push(size as u32);
         colours.push(colour);
@@ -84,26 +59,9 @@ fn blocks(random: &mut Random, shape: &str, length: usize, binary: bool) -> (Vec
     (sizes, colours)
 }
 
-/// A placement at random.
-fn place(random: &mut Random, length: usize, sizes: &[u32], colours: &[u32]) -> Vec<u32> {
-    let slack = length - space(sizes, colours);
-    let mut cuts: Vec<usize> = (0..sizes.len()).map(|_| random.below(slack + 1)).collect();
-    cuts.sort();
-    let mut cells = vec![];
-    let mut before = 0;
-    for b in 0..sizes.len() {
-        let gap = usize::from(b > 0 && colours[b - 1] == colours[b]);
-        cells.extend(std::iter::repeat(1).take(cuts[b] - before + gap));
-        before = cuts[b];
-        cells.extend(std::iter::repeat(colours[b]).take(sizes[b] as usize));
-    }
-    cells.resize(length, 1);
-    cells
-}
-
-fn case(random: &mut Random, shape: &str, known: &str, length: usize, binary: bool) -> Case {
-    let (sizes, colours) = blocks(random, shape, length, binary);
-    let open = if binary { 3 } else { OPEN };
+fn case(random: &mut Random, shape: &str, known: &str, length: usize, kind: &str) -> Case {
+    let (sizes, colours) = blocks(random, shape, length, palette(kind));
+    let open = if kind == "binary" { 3 } else { OPEN };
     let mut cells = place(random, length, &sizes, &colours);
     for cell in cells.iter_mut() {
         if known == "open" || random.below(2) == 0 {
@@ -156,36 +114,10 @@ struct Port {
 
 impl Port {
     fn coloured(&mut self, case: &Case) -> u32 {
-        let n = case.cells.len();
-        unsafe {
-            sp_solve_line(
-                case.cells.as_ptr(),
-                n,
-                case.sizes.as_ptr(),
-                case.sizes.len(),
-                case.colours.as_ptr(),
-                case.colours.len(),
-                self.memo.as_mut_ptr(),
-                self.memo.len(),
-                self.out.as_mut_ptr(),
-                n,
-            )
-        }
+        sp_solve_line(&case.cells, &case.sizes, &case.colours, &mut self.memo, &mut self.out)
     }
     fn binary(&mut self, cells: &[u32], case: &Case) -> u32 {
-        let n = cells.len();
-        unsafe {
-            sp_solve_binary_line(
-                cells.as_ptr(),
-                n,
-                case.sizes.as_ptr(),
-                case.sizes.len(),
-                self.memo.as_mut_ptr(),
-                self.memo.len(),
-                self.out.as_mut_ptr(),
-                n,
-            )
-        }
+        sp_solve_binary_line(cells, &case.sizes, &mut self.memo, &mut self.out)
     }
 }
 
@@ -211,13 +143,8 @@ fn nanoseconds(work: &mut impl FnMut()) -> f64 {
 /// One row: the crate's time and the port's, on the same lines.
 fn row(rounds: usize, kind: &str, shape: &str, known: &str, length: usize) -> (f64, f64) {
     let mut random = Random(SEED ^ ((length as u64) << 8));
-    let cases: Vec<Case> = (0..LINES)
-        .map(|_| case(&mut random, shape, known, length, kind == "binary"))
-        .collect();
-    let mut port = Port {
-        memo: vec![0xa5; 4160],
-        out: vec![0xdead_beef; length],
-    };
+    let cases: Vec<Case> = (0..LINES).map(|_| case(&mut random, shape, known, length, kind)).collect();
+    let mut port = Port { memo: vec![0xa5; MEMO_BYTES], out: vec![0xdead_beef; length] };
     if kind == "binary" {
         let given: Vec<_> = cases.iter().map(binary).collect();
         let cells: Vec<Vec<u32>> = given.iter().map(|g| codes(&g.1)).collect();
@@ -250,9 +177,7 @@ fn row(rounds: usize, kind: &str, shape: &str, known: &str, length: usize) -> (f
 
 fn main() {
     let rounds = rounds();
-    println!("| cells | kind | blocks | line | crate, ns | port, ns | crate / port |");
-    println!("|---|---|---|---|---|---|---|");
-    let mut factors = Factors::default();
+    let mut table = Table::default();
     for length in [8, 16, 32, 64] {
         for kind in ["binary", "4 colours"] {
             for shape in ["sparse", "dense", "long", "ones"] {
@@ -261,17 +186,11 @@ fn main() {
                         continue;
                     }
                     let (theirs, ours) = row(rounds, kind, shape, known, length);
-                    let factor = factors.note(theirs, ours);
-                    println!("| {length} | {kind} | {shape} | {known} | {theirs:.0} | {ours:.0} | {factor:.2} |");
+                    let measured = Measured { what: "line", cells: length.to_string(), kind, shape, known };
+                    table.row(&measured, theirs / 1000.0, None, ours / 1000.0);
                 }
             }
         }
     }
-    println!();
-    println!(
-        "Rows: {}. Geometric mean of the last column: {:.2}; least: {:.2}. Seed {SEED}, {LINES} lines a row, the least of {rounds} rounds.",
-        factors.rows(),
-        factors.geometric_mean(),
-        factors.least(),
-    );
+    table.tell("Lines", &format!("{LINES} lines a row, the least of {rounds} rounds"));
 }

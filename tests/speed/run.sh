@@ -1,5 +1,5 @@
 #!/bin/bash
-# Measures the port beside the crate, in one process and on the same inputs, and prints the tables of docs/SPEED.md.
+# Measures the port beside the crate, in one process and on the same inputs, and prints the table of docs/SPEED.md with its means.
 # CRATE_DIR holds the crate's src/; the packages are those of tests/oracle. The device library is proved and built first.
 # Usage: run.sh CRATE_DIR OUT [ROUNDS]
 set -eu
@@ -15,9 +15,12 @@ rounds=${3:-150}
 . "$here/../oracle/lay_out.sh"
 
 (cd "$here/../.." && rt staticlib device) >&2
-export RUSTFLAGS="-L native=$here/../../target/staticlib -l static=device"
 for name in lines runs; do
-  lay_out "$crate" "$out/$name" "$name" "$here/$name.rs" "$here/common.rs"
-  (cd "$out/$name" && touch "bin/$name.rs" && cargo build --release --offline -j1) >&2
+  lay_out "$crate" "$out/$name" "$here/$name.rs"
+  build_over_library "$out/$name" nonogrid
 done
-for name in lines runs; do "$out/$name/target/release/$name" "$rounds"; done
+echo "| what | cells | kind | blocks, or picture | start | crate, µs | with its cache, µs | port, µs | crate / port | with its cache / port |"
+echo "|---|---|---|---|---|---|---|---|---|---|"
+for name in lines runs; do "$out/$name/target/release/$name" "$rounds"; done 2> "$out/means"
+echo
+cat "$out/means"

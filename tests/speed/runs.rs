@@ -1,4 +1,4 @@
-//! Full runs by the crate, without and with its cache, and by the port, in one process and on the same inputs: a table of microseconds a run.
+//! Full runs by the crate, without and with its cache, and by the port, in one process and on the same inputs: rows of microseconds a run.
 //! Usage: runs [ROUNDS]. Each number is the mean over the row's puzzles of the least of that many runs; the answers are compared first.
 #![allow(warnings)]
 use std::{hint::black_box, time::Instant};
@@ -18,92 +18,16 @@ use nonogrid::{
 };
 
 mod common;
-use common::{codes, rounds, Factors, Random, COLOURS, OPEN, SEED};
-
-#[repr(C)]
-struct Reply {
-    number: u32,
-    line_kind: u32,
-    line_index: usize,
-    entries: usize,
-    lines: usize,
-}
-
-extern "C" {
-    fn sp_run(
-        width: usize,
-        height: usize,
-        grid: *mut u32,
-        grid_len: usize,
-        row_counts: *const u32,
-        row_counts_len: usize,
-        row_sizes: *const u32,
-        row_sizes_len: usize,
-        row_colours: *const u32,
-        row_colours_len: usize,
-        column_counts: *const u32,
-        column_counts_len: usize,
-        column_sizes: *const u32,
-        column_sizes_len: usize,
-        column_colours: *const u32,
-        column_colours_len: usize,
-        report: *mut u32,
-        report_len: usize,
-        memo: *mut u8,
-        memo_len: usize,
-        stack: *mut u32,
-        stack_len: usize,
-    ) -> Reply;
-    fn sp_run_binary(
-        width: usize,
-        height: usize,
-        grid: *mut u32,
-        grid_len: usize,
-        row_counts: *const u32,
-        row_counts_len: usize,
-        row_sizes: *const u32,
-        row_sizes_len: usize,
-        column_counts: *const u32,
-        column_counts_len: usize,
-        column_sizes: *const u32,
-        column_sizes_len: usize,
-        report: *mut u32,
-        report_len: usize,
-        memo: *mut u8,
-        memo_len: usize,
-        stack: *mut u32,
-        stack_len: usize,
-    ) -> Reply;
-}
+#[path = "../drawing.rs"]
+mod drawing;
+#[path = "../../examples/rust/scorepuddle.rs"]
+mod scorepuddle;
+use common::{codes, palette, rounds, Measured, Table, COLOURS, OPEN, SEED};
+use drawing::{clues, paint_blobs, paint_noise, Clues, Random};
+use scorepuddle::{sp_run, sp_run_binary, RunAnswer, MEMO_BYTES, STACK_ENTRIES};
 
 const PUZZLES: usize = 16;
 const DIRTY: u32 = 0xdead_beef;
-
-/// The clues of one direction: a count for each line, then all blocks.
-#[derive(Default)]
-struct Clues {
-    counts: Vec<u32>,
-    sizes: Vec<u32>,
-    colours: Vec<u32>,
-}
-
-impl Clues {
-    /// Appends the clue of a line of a picture, in which 1 is blank.
-    fn append(&mut self, line: impl Iterator<Item = u32>) {
-        let before = self.sizes.len();
-        let mut last = 1;
-        for code in line {
-            if code != 1 && code == last {
-                *self.sizes.last_mut().unwrap() += 1;
-            } else if code != 1 {
-                self.sizes.push(1);
-                self.colours.push(code);
-            }
-            last = code;
-        }
-        self.counts.push((self.sizes.len() - before) as u32);
-    }
-}
 
 /// A square puzzle.
 struct Puzzle {
@@ -112,56 +36,21 @@ struct Puzzle {
     columns: Clues,
 }
 
-fn colour(random: &mut Random, binary: bool) -> u32 {
-    if binary {
-        2
-    } else {
-        COLOURS[random.below(4)]
-    }
-}
-
-/// Discs of a radius of up to a sixth of the side, until they cover half of the picture.
-fn paint_blobs(random: &mut Random, side: usize, binary: bool) -> Vec<u32> {
-    let mut picture = vec![1; side * side];
-    while picture.iter().filter(|&&code| code != 1).count() * 2 < side * side {
-        let (x, y) = (random.below(side), random.below(side));
-        let radius = 1 + random.below(side / 6);
-        let code = colour(random, binary);
-        for at in 0..side * side {
-            let (across, down) = (x.abs_diff(at % side), y.abs_diff(at / side));
-            if across * across + down * down <= radius * radius {
-                picture[at] = code;
-            }
-        }
-    }
-    picture
-}
-
-/// Cells each by itself: of 10, 5 to 8 have a colour, the same number all over a picture.
-fn paint_noise(random: &mut Random, side: usize, binary: bool) -> Vec<u32> {
-    let tenths = 5 + random.below(4);
-    let mut cell = || {
-        if random.below(10) < tenths {
-            colour(random, binary)
-        } else {
-            1
-        }
-    };
-    (0..side * side).map(|_| cell()).collect()
-}
-
-fn puzzle(random: &mut Random, shape: &str, side: usize, binary: bool) -> Puzzle {
+/// Discs, or noise in which 5 to 8 cells of 10 have a colour.
+fn puzzle(random: &mut Random, shape: &str, side: usize, palette: &[u32]) -> Puzzle {
     let picture = if shape == "blobs" {
-        paint_blobs(random, side, binary)
+        paint_blobs(random, side, side, palette)
     } else {
-        paint_noise(random, side, binary)
+        let tenths = 5 + random.below(4);
+        paint_noise(random, side * side, tenths, palette)
     };
-    let (mut rows, mut columns) = (Clues::default(), Clues::default());
-    for i in 0..side {
-        rows.append((0..side).map(|x| picture[i * side + x]));
-        columns.append((0..side).map(|y| picture[y * side + i]));
-    }
+    let (rows, columns) = clues(&picture, side);
     Puzzle { side, rows, columns }
+}
+
+fn lent(clues: &Clues) -> scorepuddle::Clues<'_> {
+    let Clues { counts, sizes, colours } = clues;
+    scorepuddle::Clues { counts, sizes, colours }
 }
 
 /// The buffers that the port is lent. They are dirty before the first run, and after it as a run leaves them.
@@ -177,62 +66,8 @@ impl Port {
         Port {
             grid: vec![DIRTY; side * side],
             report: vec![DIRTY; side * side * COLOURS.len()],
-            memo: vec![0xa5; 4160],
-            stack: vec![DIRTY; 128],
-        }
-    }
-    fn coloured(&mut self, puzzle: &Puzzle) -> Reply {
-        let Puzzle { side, rows, columns } = puzzle;
-        unsafe {
-            sp_run(
-                *side,
-                *side,
-                self.grid.as_mut_ptr(),
-                self.grid.len(),
-                rows.counts.as_ptr(),
-                rows.counts.len(),
-                rows.sizes.as_ptr(),
-                rows.sizes.len(),
-                rows.colours.as_ptr(),
-                rows.colours.len(),
-                columns.counts.as_ptr(),
-                columns.counts.len(),
-                columns.sizes.as_ptr(),
-                columns.sizes.len(),
-                columns.colours.as_ptr(),
-                columns.colours.len(),
-                self.report.as_mut_ptr(),
-                self.report.len(),
-                self.memo.as_mut_ptr(),
-                self.memo.len(),
-                self.stack.as_mut_ptr(),
-                self.stack.len(),
-            )
-        }
-    }
-    fn binary(&mut self, puzzle: &Puzzle) -> Reply {
-        let Puzzle { side, rows, columns } = puzzle;
-        unsafe {
-            sp_run_binary(
-                *side,
-                *side,
-                self.grid.as_mut_ptr(),
-                self.grid.len(),
-                rows.counts.as_ptr(),
-                rows.counts.len(),
-                rows.sizes.as_ptr(),
-                rows.sizes.len(),
-                columns.counts.as_ptr(),
-                columns.counts.len(),
-                columns.sizes.as_ptr(),
-                columns.sizes.len(),
-                self.report.as_mut_ptr(),
-                self.report.len(),
-                self.memo.as_mut_ptr(),
-                self.memo.len(),
-                self.stack.as_mut_ptr(),
-                self.stack.len(),
-            )
+            memo: vec![0xa5; MEMO_BYTES],
+            stack: vec![DIRTY; STACK_ENTRIES],
         }
     }
 }
@@ -244,7 +79,7 @@ trait Kind: Block {
     fn open() -> Self::Color;
     fn block(size: usize, colour: u32) -> Self;
     fn codes(cells: &[Self::Color]) -> Vec<u32>;
-    fn port_runs(port: &mut Port, puzzle: &Puzzle) -> Reply;
+    fn port_runs(port: &mut Port, puzzle: &Puzzle) -> RunAnswer;
 }
 
 impl Kind for BinaryBlock {
@@ -258,8 +93,10 @@ impl Kind for BinaryBlock {
     fn codes(cells: &[BinaryColor]) -> Vec<u32> {
         codes(cells)
     }
-    fn port_runs(port: &mut Port, puzzle: &Puzzle) -> Reply {
-        port.binary(puzzle)
+    fn port_runs(port: &mut Port, puzzle: &Puzzle) -> RunAnswer {
+        let Port { grid, report, memo, stack } = port;
+        let (rows, columns) = (lent(&puzzle.rows), lent(&puzzle.columns));
+        sp_run_binary(puzzle.side, puzzle.side, grid, rows, columns, report, memo, stack)
     }
 }
 
@@ -274,8 +111,10 @@ impl Kind for ColoredBlock {
     fn codes(cells: &[MultiColor]) -> Vec<u32> {
         cells.iter().map(|c| c.0).collect()
     }
-    fn port_runs(port: &mut Port, puzzle: &Puzzle) -> Reply {
-        port.coloured(puzzle)
+    fn port_runs(port: &mut Port, puzzle: &Puzzle) -> RunAnswer {
+        let Port { grid, report, memo, stack } = port;
+        let (rows, columns) = (lent(&puzzle.rows), lent(&puzzle.columns));
+        sp_run(puzzle.side, puzzle.side, grid, rows, columns, report, memo, stack)
     }
 }
 
@@ -305,18 +144,14 @@ where
     B::Color: DynamicColor,
 {
     let board = board::<B>(puzzle);
-    let mut solver = if cache {
-        Solver::with_cache(board.clone())
-    } else {
-        Solver::new(board.clone())
-    };
+    let mut solver = if cache { Solver::with_cache(board.clone()) } else { Solver::new(board.clone()) };
     let start = Instant::now();
     let told = black_box(solver.run::<DynamicSolver<B>>(None));
     (microseconds(start), told, board)
 }
 
 /// The port's run on an open grid: its microseconds and what it tells. The call alone is timed.
-fn port_runs<B: Kind>(puzzle: &Puzzle, port: &mut Port) -> (f64, Reply) {
+fn port_runs<B: Kind>(puzzle: &Puzzle, port: &mut Port) -> (f64, RunAnswer) {
     port.grid.fill(B::OPEN);
     let start = Instant::now();
     let told = black_box(B::port_runs(port, puzzle));
@@ -328,8 +163,7 @@ fn microseconds(start: Instant) -> f64 {
 }
 
 /// The answers agree: the number, the board and, where the crate's unstable sort leaves the order of lines alone, the report.
-/// Returns how many lines the port solved.
-fn compare<B: Kind>(puzzle: &Puzzle, port: &mut Port) -> usize
+fn compare<B: Kind>(puzzle: &Puzzle, port: &mut Port)
 where
     B::Color: DynamicColor,
 {
@@ -345,40 +179,30 @@ where
             assert_eq!(cells.collect::<Vec<u32>>(), port.report[..ours.entries]);
         }
     }
-    ours.lines
 }
 
-/// One row of the table: its puzzles, the least microseconds of each so far (the crate without and with its cache, the port), and how many
-/// lines the port solved.
+/// One row of the table: its puzzles, and the least microseconds of each so far (the crate without and with its cache, the port).
 struct Row {
     side: usize,
     kind: &'static str,
     shape: &'static str,
     puzzles: Vec<Puzzle>,
     least: Vec<[f64; 3]>,
-    lines: usize,
 }
 
 impl Row {
     fn new(side: usize, kind: &'static str, shape: &'static str) -> Row {
         let mut random = Random(SEED ^ ((side as u64) << 8));
-        let mut next = || puzzle(&mut random, shape, side, kind == "binary");
-        Row {
-            side,
-            kind,
-            shape,
-            puzzles: (0..PUZZLES).map(|_| next()).collect(),
-            least: vec![[f64::MAX; 3]; PUZZLES],
-            lines: 0,
-        }
+        let mut next = || puzzle(&mut random, shape, side, palette(kind));
+        Row { side, kind, shape, puzzles: (0..PUZZLES).map(|_| next()).collect(), least: vec![[f64::MAX; 3]; PUZZLES] }
     }
-    fn compare<B: Kind>(&mut self)
+    fn compare<B: Kind>(&self)
     where
         B::Color: DynamicColor,
     {
         let mut port = Port::new(self.side);
         for puzzle in &self.puzzles {
-            self.lines += compare::<B>(puzzle, &mut port);
+            compare::<B>(puzzle, &mut port);
         }
     }
     /// Every puzzle once by each of the three, by turns.
@@ -408,7 +232,7 @@ fn measure_rows(rounds: usize) -> Vec<Row> {
             }
         }
     }
-    for row in &mut rows {
+    for row in &rows {
         if row.kind == "binary" {
             row.compare::<BinaryBlock>();
         } else {
@@ -429,24 +253,12 @@ fn measure_rows(rounds: usize) -> Vec<Row> {
 
 fn main() {
     let rounds = rounds();
-    let rows = measure_rows(rounds);
-    println!("| side | kind | picture | lines | crate, µs | with its cache, µs | port, µs | crate / port | with its cache / port |");
-    println!("|---|---|---|---|---|---|---|---|---|");
-    let (mut plain, mut cached) = (Factors::default(), Factors::default());
-    for row in &rows {
+    let mut table = Table::default();
+    for row in &measure_rows(rounds) {
         let Row { side, kind, shape, .. } = row;
-        let lines = row.lines / PUZZLES;
         let [theirs, with_cache, ours] = [0, 1, 2].map(|which| row.mean(which));
-        let (factor, other) = (plain.note(theirs, ours), cached.note(with_cache, ours));
-        println!("| {side} | {kind} | {shape} | {lines} | {theirs:.1} | {with_cache:.1} | {ours:.1} | {factor:.2} | {other:.2} |");
+        let measured = Measured { what: "run", cells: format!("{side} × {side}"), kind, shape, known: "open" };
+        table.row(&measured, theirs, Some(with_cache), ours);
     }
-    println!();
-    println!(
-        "Rows: {}. Geometric means of the last two columns: {:.2} and {:.2}; least: {:.2} and {:.2}. Seed {SEED}, {PUZZLES} puzzles a row, the least of {rounds} rounds.",
-        plain.rows(),
-        plain.geometric_mean(),
-        cached.geometric_mean(),
-        plain.least(),
-        cached.least(),
-    );
+    table.tell("Runs", &format!("{PUZZLES} puzzles a row, the least of {rounds} rounds"));
 }
