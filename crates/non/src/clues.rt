@@ -1,0 +1,173 @@
+// One line of the rows or the columns: its blocks are stored, with their colours.
+use crate::blocks::After;
+use crate::blocks::Block;
+use crate::blocks::look_after;
+use crate::blocks::read_block;
+use crate::faults;
+use crate::faults::Fault;
+use crate::layout::BEGUN;
+use crate::layout::BITS;
+use crate::layout::BLOCKS;
+use crate::layout::COLOURS;
+use crate::layout::COUNTS;
+use crate::layout::PLACES;
+use crate::layout::READ;
+use crate::layout::ROOM;
+use crate::layout::SIDE;
+use crate::layout::SIZES;
+use crate::words::Class;
+use crate::words::Word;
+use crate::words::read_word;
+ghost use mathlib.Core.Path.{_≡_};
+ghost use Prim.Native.Nat.{_≤_, _<_};
+ghost use Rattle.non.specs.Colours.{colourAt, ColourOrNone};
+
+// The most blocks of a line.
+const MOST_BLOCKS: u32 = 64;
+
+// Whether a list has begun and wants lines.
+pub(crate) fn is_wanted(card: &[u32; ROOM], way: usize) -> bool
+    requires { ⌜ way ≤ 1 ⌝ }
+{
+    if card[BEGUN + way] > 0 {
+        return card[READ + way] < card[SIDE + way];
+    }
+    false
+}
+
+// The bit of a colour's word, or the first that has none; 32 where there is neither.
+fn find_word(card: &[u32; ROOM], low: u32, high: u32) -> u32
+    ensures { λ r. ⌜ (1 ≤ r) × (r ≤ 32) ⌝ }
+{
+    let mut bit = 1;
+    while bit < BITS {
+        let at = 2 * bit as usize;
+        let held = card[at];
+        if held == 0 {
+            return bit;
+        }
+        if held == low {
+            if card[at + 1] == high {
+                return bit;
+            }
+        }
+        bit += 1;
+    }
+    bit
+}
+
+fn colour_of(bit: u32) -> u32
+    requires { ⌜ bit < 32 ⌝ }
+    ensures { λ r. ⌜ r ≡ colourAt bit ⌝ }
+{
+    1u32 << bit
+}
+
+// The colour of a word, which is added where it is new; 0 where there is no bit for it.
+fn know_word(card: &mut [u32; ROOM], word: u64) -> u32
+    ensures { λ r. ⌜ ColourOrNone r ⌝ }
+{
+    let low = (word % 4294967296) as u32;
+    let high = (word / 4294967296) as u32;
+    let bit = find_word(card, low, high);
+    if bit < BITS {
+        let at = 2 * bit as usize;
+        card[at] = low;
+        card[at + 1] = high;
+        return colour_of(bit);
+    }
+    0
+}
+
+// Stores a block after those of its way.
+fn store_block(card: &mut [u32; ROOM], way: usize, size: u32, colour: u32)
+    requires { ⌜ way ≤ 1 ⌝ }
+{
+    let blocks = card[BLOCKS + way];
+    if blocks < 4096 {
+        let entry = way * 4096 + blocks as usize;
+        card[SIZES + entry] = size;
+        card[COLOURS + entry] = colour;
+        card[BLOCKS + way] = blocks + 1;
+    }
+}
+
+// Reads the block that begins there, and stores it.
+fn take_block(text: &[u8], at: usize, card: &mut [u32; ROOM], way: usize) -> After
+    requires { ⌜ way ≤ 1 ⌝ }
+{
+    let block = read_block(text, at);
+    match block {
+        Block::Is { size, word, end } => {
+            let colour = know_word(card, word);
+            if colour == 0 {
+                return After::Bad(faults::MANY_COLOURS);
+            }
+            store_block(card, way, size, colour);
+            look_after(text, end)
+        }
+        Block::Bad(fault) => After::Bad(fault),
+    }
+}
+
+// Notes that a line of a way was read: its number of blocks, and the line of the file.
+fn end_clue(card: &mut [u32; ROOM], way: usize, count: u32, line: u32)
+    requires { ⌜ way ≤ 1 ⌝ }
+{
+    let read = card[READ + way];
+    if read < 64 {
+        let index = way * 64 + read as usize;
+        card[COUNTS + index] = count;
+        card[PLACES + index] = line;
+        card[READ + way] = read + 1;
+    }
+}
+
+// Whether a line has no blocks: it is empty, or 0 alone.
+fn is_none(text: &[u8]) -> bool {
+    let word = read_word(Class::Number, text, 0);
+    match word {
+        Word::Is { value, end } => {
+            if value == 0 {
+                return end == text.len();
+            }
+            false
+        }
+        Word::Long => false,
+        Word::Missing => text.len() == 0,
+    }
+}
+
+// Takes the next line of a list. `line` is its number in the file.
+pub(crate) fn take_clue(
+    text: &[u8],
+    cut: bool,
+    line: u32,
+    card: &mut [u32; ROOM],
+    way: usize,
+) -> Fault
+    requires { ⌜ way ≤ 1 ⌝ }
+{
+    if is_none(text) {
+        end_clue(card, way, 0, line);
+        return faults::NONE;
+    }
+    let mut at = 0;
+    let mut count = 0;
+    while count < MOST_BLOCKS {
+        count += 1;
+        let after = take_block(text, at, card, way);
+        match after {
+            After::Comma(next) => at = next,
+            After::End => {
+                if cut {
+                    return faults::LONG_LINE;
+                }
+                end_clue(card, way, count, line);
+                return faults::NONE;
+            }
+            After::Bad(fault) => return fault,
+        }
+    }
+    faults::MANY_BLOCKS
+}
