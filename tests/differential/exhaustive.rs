@@ -99,6 +99,7 @@ fn block_lists(most: usize, sizes: &[u32], colours: &[u32]) -> Vec<Blocks> {
     lists.map(|list| list.iter().map(block).unzip()).collect()
 }
 
+/// The calls on blocks: every list of up to so many, with every length that they fit. A description has blocks that are none, too.
 fn blocks(comparison: &mut Comparison, coloured: bool, most: usize, colours: &[u32]) {
     for (sizes, colours) in block_lists(most, &[1, 2, 3, 5], colours) {
         for call in [Call::Sums, Call::Starts] {
@@ -143,8 +144,7 @@ fn compare_blocks(comparison: &mut Comparison) {
     blocks(comparison, false, 5, &[2]);
     comparison.end_group("blocks, binary: up to 5 of sizes 1 2 3 5, for the description 0 1 2; lengths to 24");
     blocks(comparison, true, 4, &[2, 4]);
-    comparison
-        .end_group("blocks, coloured: up to 4 of sizes 1 2 3 5 and 2 colours, for the description 0 1 2 and 0 1 2");
+    comparison.end_group("blocks, 2 colours: up to 4 of sizes 1 2 3 5, for the description 0 1 2; lengths to 24");
 }
 
 fn compare_clues(comparison: &mut Comparison) {
