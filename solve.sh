@@ -1,18 +1,21 @@
 #!/usr/bin/env bash
-# Proves and builds the program `solve`, and solves the cards that are named, or one of ours. A card is a .non file (cards/README.md).
-# Status: 0 where every card has a board, 1 where one has no solution, 2 where one is no card or the program is not proved.
-# Usage: solve.sh [CARD.non ...]
-set -euo pipefail
+# Solves the cards that are named, or one of cards/, and shows their boards. It first proves and builds the program, which takes some
+# minutes once. Status: 0 done, 1 a card has no solution, 2 a file is no card (or the program could not be built).
+set -uo pipefail
 root=$(cd "$(dirname "${BASH_SOURCE[0]}")" && pwd)
-if [ $# -eq 0 ]; then set -- "$root/cards/puddle.non"; fi
-
-if ! built=$(cd "$root" && rt check solve 2>&1); then
-  printf '%s\n' "$built" >&2
-  exit 2
+[ $# -gt 0 ] || set -- "$root/cards/duck.non"
+if ! log=$(cd "$root" && rt check solve 2>&1); then
+    printf '%s\n' "$log" >&2
+    exit 2
 fi
-told=$("$root/target/bin/solve" "$@")
-printf '%s\n' "$told"
-case $'\n'$told in
-  *$'\nbad card'*) exit 2 ;;
-  *$'\nunsolvable'*) exit 1 ;;
-esac
+"$root/target/bin/solve" "$@" | {
+    status=0
+    while IFS= read -r line; do
+        printf '%s\n' "$line"
+        case $line in
+        'bad card,'*) status=2 ;;
+        'unsolvable '*) [ "$status" -eq 2 ] || status=1 ;;
+        esac
+    done
+    exit "$status"
+}

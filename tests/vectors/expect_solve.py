@@ -1,7 +1,7 @@
 """Writes what the program solve must print for cards: an independent reading of their format and of document 01's runs.
 
 Usage: expect_solve.py FOLDER < args > stdout. The names of the cards stand one a line on standard input, as the program's arguments; a name
-that is no file of the folder cannot be opened. With no name, or one, no name stands above an answer.
+that is no file of the folder cannot be opened, or read. With no name, or one, no name stands above an answer.
 """
 
 import os
@@ -12,7 +12,7 @@ from reading import LEAST_MEMO
 from reading_runs import LEAST_STACK, ROW, Card, Rooms, room_number, run
 
 BLACK_WORD = "#"
-MOST_SIDE, MOST_BLOCKS, MOST_COLOURS, MOST_NUMBER = 64, 64, 31, 2**32 - 1
+MOST_SIDE, MOST_BLOCKS, MOST_COLOURS, MOST_NUMBER, MOST_BYTES = 64, 64, 31, 2**32 - 1, 4096
 
 
 class Fault(Exception):
@@ -103,12 +103,14 @@ class Reading:
             if not word:
                 raise Fault("a colour is missing after a colon")
             if len(word) > 8:
-                raise Fault("a colour has more than 8 letters")
+                raise Fault("a colour has more than 8 letters and digits")
         return (size, self.colour_of(word)), rest
 
     def take_clue(self, name, text, place):
-        blocks, rest = [], text
-        while rest and not re.fullmatch(r"0+", text):
+        blocks, rest = [], text[:MOST_BYTES]
+        if re.fullmatch(r"0+", rest):
+            rest = ""
+        while rest:
             if len(blocks) == MOST_BLOCKS:
                 raise Fault("the line has more than 64 blocks (3)")
             block, rest = self.take_block(rest)
@@ -120,6 +122,8 @@ class Reading:
             if len(blocks) == MOST_BLOCKS:
                 raise Fault("the line has more than 64 blocks (3)")
             rest = rest[1:] or self.take_block("")
+        if len(text) > MOST_BYTES:
+            raise Fault("the line is too long")
         self.lists[name].append(blocks)
         self.places[name].append(place)
 
@@ -199,9 +203,9 @@ def main():
             print(f"== {name} ==")
         path = os.path.join(sys.argv[1], name)
         if not os.path.isfile(path):
-            print("bad card, the file cannot be opened")
+            print("bad card, the file cannot be read" if os.path.isdir(path) else "bad card, the file cannot be opened")
             continue
-        with open(path, newline="") as file:
+        with open(path, encoding="latin-1", newline="") as file:
             reading = read_card(file.read())
         print(reading if isinstance(reading, str) else "\n".join(solve(reading)))
 

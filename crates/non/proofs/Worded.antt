@@ -2,7 +2,7 @@
 use mathlib.Core.Path.{_≡_, refl, sym, _∙_, ap}
 use mathlib.Core.Bool.{Bool, true, false, cond}
 use mathlib.Core.List.{List, [], _∷_}
-use Prim.Native.Nat.{ℕ, suc, _+_, _-_, _*_, _/_, _≤_, _<_}
+use Prim.Native.Nat.{ℕ, _+_, _-_, _*_, _/_, _≤_, _<_}
 use native.Mathlib.Nat.{le-div-iff-mul-le, div-lt-iff-lt-mul, mul-le-mul-left}
 use native.Mathlib.Numerals.{add-one}
 use native.Mathlib.Omega.{arith}
@@ -69,61 +69,68 @@ module _ (k : Class) where
   unfolding wordIn
   word-out b l h = rw h
 
-  -- from `from` to `end` the text is a word whose value is v, as far as it was read
-  pub record Reading (text : List ℕ) (from v end : ℕ) : Type 0 where
+module _ (k : Class) (text : List ℕ) (from : ℕ) where
+  -- what is left of the word at an index; and the whole word
+  abbrev rest : ℕ → List ℕ
+  rest end = wordIn k (drop end text)
+
+  abbrev whole : List ℕ
+  whole = rest from
+
+  -- from `from` to `end` a word was read, of which the value is v
+  pub record Reading (v end : ℕ) : Type 0 where
     pub above : from ≤ end
     pub small : v ≤ mostOf k
-    pub value : valueFrom k 0 (wordIn k (drop from text)) ≡ valueFrom k v (wordIn k (drop end text))
-    pub size : from + length (wordIn k (drop from text)) ≡ end + length (wordIn k (drop end text))
+    pub value : valueFrom k 0 whole ≡ valueFrom k v (rest end)
+    pub size : from + length whole ≡ end + length (rest end)
 
-  module _ (text : List ℕ) (from : ℕ) where
-    pub reading-none : Reading text from 0 from
-    reading-none = record { above = omega arith; small = omega arith; value = refl; size = refl }
+  pub reading-none : Reading 0 from
+  reading-none = record { above = omega arith; small = omega arith; value = refl; size = refl }
 
-    front : (end : ℕ) → end < length text → drop end text ≡ getD text end 0 ∷ drop (end + 1) text
-    front end h = rw (add-one, drop-cons text end 0 h)
+  front : (end : ℕ) → end < length text → drop end text ≡ getD text end 0 ∷ drop (end + 1) text
+  front end h = rw (add-one, drop-cons text end 0 h)
 
-    pub reading-more : (v end w : ℕ) → end < length text → inWord k (getD text end 0) ≡ true → w ≡ v * baseOf k + worthOf k (getD text end 0) → w ≤ mostOf k
-        → Reading text from v end → Reading text from w (end + 1)
-    unfolding valueFrom
-    reading-more v end w h i e small r =
-        let f : wordIn k (drop end text) ≡ getD text end 0 ∷ wordIn k (drop (end + 1) text) = ap (wordIn k) (front end h) ∙ word-in _ _ i in
-        record {
-          above = omega (arith, r .above);
-          small = small;
-          value = r .value ∙ ap (valueFrom k v) f ∙ ap (λ (n : ℕ). valueFrom k n (wordIn k (drop (end + 1) text))) (sym e);
-          size = omega (arith, r .size, ap length f);
-        }
+  rest-in : (end : ℕ) → end < length text → inWord k (getD text end 0) ≡ true → rest end ≡ getD text end 0 ∷ rest (end + 1)
+  rest-in end h i = ap (wordIn k) (front end h) ∙ word-in k _ _ i
 
-    -- the word ends where none of its bytes is left
-    read-whole : (v end : ℕ) → wordIn k (drop end text) ≡ [] → Reading text from v end → wordTo v from end ≡ readAs k from (wordIn k (drop from text))
-    unfolding valueFrom
-    read-whole v end e r =
-        let w = wordIn k (drop from text) in
-        let value : valueFrom k 0 w ≡ v = r .value ∙ ap (valueFrom k v) e in
-        let size : from + length w ≡ end = omega (arith, r .size, ap length e) in
-        go (eqb end from) (eqb (length w) 0) refl refl value size
-      where
-        go : (p q : Bool) → eqb end from ≡ p → eqb (length (wordIn k (drop from text))) 0 ≡ q
-            → valueFrom k 0 (wordIn k (drop from text)) ≡ v → from + length (wordIn k (drop from text)) ≡ end
-            → cond p Missing (Is v end) ≡ cond q Missing
-            (cond (ltb (mostOf k) (valueFrom k 0 (wordIn k (drop from text)))) Long (Is (valueFrom k 0 (wordIn k (drop from text))) (from + length (wordIn k (drop from text)))))
-        go true true ep eq a b = refl
-        go true false ep eq a b = absurd (eqb-false (length (wordIn k (drop from text))) 0 eq (omega (arith, eqb-true end from ep)))
-        go false true ep eq a b = absurd (eqb-false end from ep (omega (arith, eqb-true (length (wordIn k (drop from text))) 0 eq)))
-        go false false ep eq a b = rw (a, b, le-ltb _ _ (r .small))
+  pub reading-more : (v end w : ℕ) → end < length text → inWord k (getD text end 0) ≡ true
+      → w ≡ v * baseOf k + worthOf k (getD text end 0) → w ≤ mostOf k → Reading v end → Reading w (end + 1)
+  unfolding valueFrom
+  reading-more v end w h i e small r =
+      let f = rest-in end h i in
+      record {
+        above = omega (arith, r .above);
+        small = small;
+        value = r .value ∙ ap (valueFrom k v) f ∙ ap (λ (n : ℕ). valueFrom k n (rest (end + 1))) (sym e);
+        size = omega (arith, r .size, ap length f);
+      }
 
-    pub read-to : (v end : ℕ) → end < length text → inWord k (getD text end 0) ≡ false → Reading text from v end → wordTo v from end ≡ readAs k from (wordIn k (drop from text))
-    read-to v end h i r = read-whole v end (ap (wordIn k) (front end h) ∙ word-out _ _ i) r
+  -- the word ends where none of its bytes is left
+  read-whole : (v end : ℕ) → rest end ≡ [] → Reading v end → wordTo v from end ≡ readAs k from whole
+  unfolding valueFrom
+  read-whole v end e r =
+      go (eqb end from) (eqb (length whole) 0) refl refl (r .value ∙ ap (valueFrom k v) e) (omega (arith, r .size, ap length e))
+    where
+      go : (p q : Bool) → eqb end from ≡ p → eqb (length whole) 0 ≡ q → valueFrom k 0 whole ≡ v → from + length whole ≡ end
+          → cond p Missing (Is v end)
+          ≡ cond q Missing (cond (ltb (mostOf k) (valueFrom k 0 whole)) Long (Is (valueFrom k 0 whole) (from + length whole)))
+      go true true ep eq a b = refl
+      go true false ep eq a b = absurd (eqb-false (length whole) 0 eq (omega (arith, eqb-true end from ep)))
+      go false true ep eq a b = absurd (eqb-false end from ep (omega (arith, eqb-true (length whole) 0 eq)))
+      go false false ep eq a b = rw (a, b, le-ltb _ _ (r .small))
 
-    pub read-end : (v end : ℕ) → length text ≤ end → Reading text from v end → wordTo v from end ≡ readAs k from (wordIn k (drop from text))
-    unfolding wordIn
-    read-end v end h r = read-whole v end (ap (wordIn k) (drop-of-length-le text h)) r
+  pub read-to : (v end : ℕ) → end < length text → inWord k (getD text end 0) ≡ false → Reading v end → wordTo v from end ≡ readAs k from whole
+  read-to v end h i r = read-whole v end (ap (wordIn k) (front end h) ∙ word-out k _ _ i) r
 
-    pub read-over : (v end : ℕ) → end < length text → inWord k (getD text end 0) ≡ true → mostOf k < v * baseOf k + worthOf k (getD text end 0)
-        → Reading text from v end → Long ≡ readAs k from (wordIn k (drop from text))
-    unfolding valueFrom
-    read-over v end h i m r =
-        let f : wordIn k (drop end text) ≡ getD text end 0 ∷ wordIn k (drop (end + 1) text) = ap (wordIn k) (front end h) ∙ word-in _ _ i in
-        let n : mostOf k < valueFrom k 0 (wordIn k (drop from text)) = omega (arith, r .value, ap (valueFrom k v) f, grows (wordIn k (drop (end + 1) text)) (v * baseOf k + worthOf k (getD text end 0)), m) in
-        rw (ne-eqb (length (wordIn k (drop from text))) 0 (λ z. omega (arith, r .size, r .above, ap length f)), lt-ltb _ _ n)
+  pub read-end : (v end : ℕ) → length text ≤ end → Reading v end → wordTo v from end ≡ readAs k from whole
+  unfolding wordIn
+  read-end v end h r = read-whole v end (ap (wordIn k) (drop-of-length-le text h)) r
+
+  pub read-over : (v end : ℕ) → end < length text → inWord k (getD text end 0) ≡ true
+      → mostOf k < v * baseOf k + worthOf k (getD text end 0) → Reading v end → Long ≡ readAs k from whole
+  unfolding valueFrom
+  read-over v end h i m r =
+      let f = rest-in end h i in
+      let more = grows k (rest (end + 1)) (v * baseOf k + worthOf k (getD text end 0)) in
+      let n : mostOf k < valueFrom k 0 whole = omega (arith, r .value, ap (valueFrom k v) f, more, m) in
+      rw (ne-eqb (length whole) 0 (λ z. omega (arith, r .size, r .above, ap length f)), lt-ltb _ _ n)

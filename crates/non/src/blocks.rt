@@ -1,7 +1,7 @@
 // One block in a line of a card, and what stands after it.
 use crate::faults;
 use crate::faults::Fault;
-use crate::layout::BLACK;
+use crate::palette::BLACK;
 use crate::words::Class;
 use crate::words::Word;
 use crate::words::is_letter;

@@ -6,7 +6,6 @@ use crate::blocks::read_block;
 use crate::faults;
 use crate::faults::Fault;
 use crate::layout::BEGUN;
-use crate::layout::BITS;
 use crate::layout::BLOCKS;
 use crate::layout::COLOURS;
 use crate::layout::COUNTS;
@@ -15,12 +14,11 @@ use crate::layout::READ;
 use crate::layout::ROOM;
 use crate::layout::SIDE;
 use crate::layout::SIZES;
+use crate::palette::know_word;
 use crate::words::Class;
 use crate::words::Word;
 use crate::words::read_word;
-ghost use mathlib.Core.Path.{_≡_};
-ghost use Prim.Native.Nat.{_≤_, _<_};
-ghost use Rattle.non.specs.Colours.{colourAt, ColourOrNone};
+ghost use Prim.Native.Nat.{_≤_};
 
 // The most blocks of a line.
 const MOST_BLOCKS: u32 = 64;
@@ -33,50 +31,6 @@ pub(crate) fn is_wanted(card: &[u32; ROOM], way: usize) -> bool
         return card[READ + way] < card[SIDE + way];
     }
     false
-}
-
-// The bit of a colour's word, or the first that has none; 32 where there is neither.
-fn find_word(card: &[u32; ROOM], low: u32, high: u32) -> u32
-    ensures { λ r. ⌜ (1 ≤ r) × (r ≤ 32) ⌝ }
-{
-    let mut bit = 1;
-    while bit < BITS {
-        let at = 2 * bit as usize;
-        let held = card[at];
-        if held == 0 {
-            return bit;
-        }
-        if held == low {
-            if card[at + 1] == high {
-                return bit;
-            }
-        }
-        bit += 1;
-    }
-    bit
-}
-
-fn colour_of(bit: u32) -> u32
-    requires { ⌜ bit < 32 ⌝ }
-    ensures { λ r. ⌜ r ≡ colourAt bit ⌝ }
-{
-    1u32 << bit
-}
-
-// The colour of a word, which is added where it is new; 0 where there is no bit for it.
-fn know_word(card: &mut [u32; ROOM], word: u64) -> u32
-    ensures { λ r. ⌜ ColourOrNone r ⌝ }
-{
-    let low = (word % 4294967296) as u32;
-    let high = (word / 4294967296) as u32;
-    let bit = find_word(card, low, high);
-    if bit < BITS {
-        let at = 2 * bit as usize;
-        card[at] = low;
-        card[at + 1] = high;
-        return colour_of(bit);
-    }
-    0
 }
 
 // Stores a block after those of its way.
@@ -110,10 +64,13 @@ fn take_block(text: &[u8], at: usize, card: &mut [u32; ROOM], way: usize) -> Aft
     }
 }
 
-// Notes that a line of a way was read: its number of blocks, and the line of the file.
-fn end_clue(card: &mut [u32; ROOM], way: usize, count: u32, line: u32)
+// Notes that a line of a way was read: its number of blocks, and the line of the file. One that was cut cannot be known.
+fn end_clue(card: &mut [u32; ROOM], way: usize, count: u32, line: u32, cut: bool) -> Fault
     requires { ⌜ way ≤ 1 ⌝ }
 {
+    if cut {
+        return faults::LONG_LINE;
+    }
     let read = card[READ + way];
     if read < 64 {
         let index = way * 64 + read as usize;
@@ -121,6 +78,7 @@ fn end_clue(card: &mut [u32; ROOM], way: usize, count: u32, line: u32)
         card[PLACES + index] = line;
         card[READ + way] = read + 1;
     }
+    faults::NONE
 }
 
 // Whether a line has no blocks: it is empty, or 0 alone.
@@ -149,8 +107,7 @@ pub(crate) fn take_clue(
     requires { ⌜ way ≤ 1 ⌝ }
 {
     if is_none(text) {
-        end_clue(card, way, 0, line);
-        return faults::NONE;
+        return end_clue(card, way, 0, line, cut);
     }
     let mut at = 0;
     let mut count = 0;
@@ -159,13 +116,7 @@ pub(crate) fn take_clue(
         let after = take_block(text, at, card, way);
         match after {
             After::Comma(next) => at = next,
-            After::End => {
-                if cut {
-                    return faults::LONG_LINE;
-                }
-                end_clue(card, way, count, line);
-                return faults::NONE;
-            }
+            After::End => return end_clue(card, way, count, line, cut),
             After::Bad(fault) => return fault,
         }
     }

@@ -96,7 +96,7 @@ pub fn write_fault(fault: Fault) {
           a block has size 0 (4)\n\
           a comma is missing\n\
           a colour is missing after a colon\n\
-          a colour has more than 8 letters\n\
+          a colour has more than 8 letters and digits\n\
           the card has more than 31 colours\n\
           the line has more than 64 blocks (3)\n\
           the line is too long\n\

@@ -7,15 +7,13 @@ use crate::layout::COLUMNS;
 use crate::layout::ROOM;
 use crate::layout::ROWS;
 use crate::layout::SIDE;
-use crate::layout::get;
-use crate::layout::set;
 use crate::words::Class;
 use crate::words::Word;
 use crate::words::is_digit;
 use crate::words::read_word;
 ghost use Prim.Native.Nat.{_≤_};
 
-// The keys that count, as words: `width`, `height`, `rows` and `columns`.
+// The keys that count, as words: `width`, `height`, `rows` and `columns`, a byte for each letter.
 const WIDTH: u64 = 0x7769647468;
 
 const HEIGHT: u64 = 0x686569676874;
@@ -67,13 +65,13 @@ fn begin_list(text: &[u8], at: usize, card: &mut [u32; ROOM], way: usize) -> Fau
     if at < text.len() {
         return faults::UNKNOWN_TEXT;
     }
-    if get(card, BEGUN, way) > 0 {
+    if card[BEGUN + way] > 0 {
         return faults::LIST_AGAIN;
     }
-    if get(card, SIDE, way) == 0 {
+    if card[SIDE + way] == 0 {
         return faults::NO_SIDE_YET;
     }
-    set(card, BEGUN, way, 1);
+    card[BEGUN + way] = 1;
     faults::NONE
 }
 
@@ -93,7 +91,7 @@ fn take_key(key: u64, text: &[u8], at: usize, card: &mut [u32; ROOM]) -> Fault {
     faults::NONE
 }
 
-// Takes a line outside the lists. A key that is too long is none that counts.
+// Takes a line outside the lists. A key of more than 8 letters is none that counts.
 pub(crate) fn take_heading(text: &[u8], card: &mut [u32; ROOM]) -> Fault {
     if text.len() == 0 {
         return faults::NONE;

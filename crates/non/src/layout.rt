@@ -1,64 +1,48 @@
-// The list of numbers that a card is read into.
+// The list of numbers that a card is read into, and the parts of it that a run is lent.
 //
-// First stand the words of its 32 colours, two numbers each, by the colours' bits; that of blank is `.`. A card has two ways, its rows and
-// its columns. For each stand how many lines it has, 0 until its side is given; whether its list has begun; how many lines and how many
-// blocks of it were read. Then, for each line of each way, the line of the file where its clue stands; and its number of blocks. Last the
-// sizes of all blocks, and their colours.
-ghost use mathlib.Core.Path.{_≡_};
-ghost use Prim.Native.Nat.{_+_, _*_, _≤_};
-ghost use Rattle.non.specs.Colours.{wordAt};
+// A card has two ways, its rows and its columns. First in the list stand the words of its colours (`palette`). Then come four numbers of
+// each way, lists of 64 numbers for the lines of each way, and lists of 4,096 for its blocks; what is the columns' comes after the rows'.
+ghost use Prim.Native.Nat.{_≤_};
 
 pub const ROWS: usize = 0;
 
 pub const COLUMNS: usize = 1;
 
-// How many bits a set of colours has. The first is blank.
-pub const BITS: u32 = 32;
-
-// The word of black, `#`.
-pub const BLACK: u64 = 35;
-
-// What is said of a way stands at its number after these.
+// How many lines a way has; 0 until its side is given.
 pub(crate) const SIDE: usize = 64;
 
+// Whether the list of a way has begun.
 pub(crate) const BEGUN: usize = 66;
 
+// How many lines of a way were read.
 pub(crate) const READ: usize = 68;
 
+// How many blocks of a way were read.
 pub(crate) const BLOCKS: usize = 70;
 
-// Where the lists of the rows begin. Those of the columns come after 64 lines, or 4,096 blocks.
+// The line of the file where a line's clue stands.
 pub(crate) const PLACES: usize = 128;
 
+// How many blocks a line has.
 pub(crate) const COUNTS: usize = 256;
 
+// The blocks' sizes.
 pub(crate) const SIZES: usize = 384;
 
+// The blocks' colours.
 pub(crate) const COLOURS: usize = 8576;
 
 pub const ROOM: usize = 16768;
 
+// A card of which nothing was read yet. The word of blank is `.`.
 pub fn make() -> [u32; ROOM] {
-    let mut card = [0; 16768];
+    let mut card = [0; ROOM];
     card[0] = 46;
     card
 }
 
 fn widen(number: u32) -> usize {
     number as usize
-}
-
-// What is said of a way.
-pub(crate) fn get(card: &[u32; ROOM], what: usize, way: usize) -> u32
-    requires { ⌜ (what ≤ 70) × (way ≤ 1) ⌝ }
-{
-    card[what + way]
-}
-
-pub(crate) fn set(card: &mut [u32; ROOM], what: usize, way: usize, number: u32)
-    requires { ⌜ (what ≤ 70) × (way ≤ 1) ⌝ }
-{
-    card[what + way] = number;
 }
 
 // So many numbers of a list from `from` on; none where the list has not all of them.
@@ -105,23 +89,6 @@ pub fn place_of(card: &[u32; ROOM], way: usize, line: usize) -> u32
 {
     if line < 64 {
         return card[PLACES + way * 64 + line];
-    }
-    0
-}
-
-fn join(low: u32, high: u32) -> u64
-    ensures { λ r. ⌜ r ≡ high * 4294967296 + low ⌝ }
-{
-    (high as u64) * 4294967296 + low as u64
-}
-
-// The word of a colour's bit; 0 where the card has no such colour.
-pub fn word_at(card: &[u32; ROOM], bit: u32) -> u64
-    ensures { λ r. ⌜ r ≡ wordAt (now (card .entry)) bit ⌝ }
-{
-    if bit < BITS {
-        let at = 2 * bit as usize;
-        return join(card[at], card[at + 1]);
     }
     0
 }

@@ -7,6 +7,7 @@ mod clues;
 pub mod faults;
 mod headings;
 pub mod layout;
+pub mod palette;
 mod pieces;
 mod words;
 
@@ -23,7 +24,7 @@ use pieces::Next;
 use pieces::next_line;
 use pieces::open;
 
-// What a file holds: a card; or a fault in a line of it; or one that shows at its end, which is after that line.
+// What a file holds: a card; or a fault in a line of it; or one that shows at its end, after that line; or nothing that can be read.
 pub enum Outcome {
     Card,
     BadLine { fault: Fault, line: u32 },
@@ -100,7 +101,7 @@ fn read_lines(
     Outcome::Unreadable
 }
 
-// Reads a card from an open file into a list of zeros, as `layout::make` makes it.
+// Reads a card from an open file into a list as `layout::make` makes it.
 pub fn read_card(file: i32, card: &mut [u32; ROOM]) -> Outcome {
     let mut buffer = io::buffer();
     let mut text = io::buffer();

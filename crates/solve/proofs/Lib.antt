@@ -1,1 +1,2 @@
+pub mod Colouring
 pub mod Opened

@@ -25,11 +25,13 @@ module _ (k : Bool) (grid : List ℕ) where
 
   pub count-one : (n i : ℕ) → i < length grid → isOpen (setShown k (getD grid i 0)) ≡ true → Counting n i → Counting (n + 1) (i + 1)
   count-one n i h e c =
-      record { most = omega (arith, c .most); below = omega arith; rest = omega (arith, c .rest, next i h, ap {B = ℕ} (λ (b : Bool). cond b 1 0) e) }
+      let cell = ap {B = ℕ} (λ (b : Bool). cond b 1 0) e in
+      record { most = omega (arith, c .most); below = omega arith; rest = omega (arith, c .rest, next i h, cell) }
 
   pub count-skip : (n i : ℕ) → i < length grid → isOpen (setShown k (getD grid i 0)) ≡ false → Counting n i → Counting n (i + 1)
   count-skip n i h e c =
-      record { most = omega (arith, c .most); below = omega arith; rest = omega (arith, c .rest, next i h, ap {B = ℕ} (λ (b : Bool). cond b 1 0) e) }
+      let cell = ap {B = ℕ} (λ (b : Bool). cond b 1 0) e in
+      record { most = omega (arith, c .most); below = omega arith; rest = omega (arith, c .rest, next i h, cell) }
 
   pub counted : (n i : ℕ) → length grid ≤ i → Counting n i → n ≡ openIn k grid
   unfolding openIn

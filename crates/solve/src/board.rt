@@ -1,9 +1,9 @@
 // Shows a board, one line of text a row, and its cells as words: that of a colour, `.` for blank, and `?` where several colours are left.
 use crate::writing::write_text;
 use line::binary::set_of;
-use non::layout::BITS;
 use non::layout::ROOM;
-use non::layout::word_at;
+use non::palette::BITS;
+use non::palette::word_at;
 ghost use mathlib.Core.Path.{_≡_};
 ghost use Rattle.solve.specs.Shown.{setShown, isOpen, openIn, shown};
 

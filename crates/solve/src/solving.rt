@@ -3,8 +3,6 @@ use crate::board::count_open;
 use crate::board::write_board;
 use crate::writing::write_number;
 use crate::writing::write_text;
-use non::layout::BITS;
-use non::layout::BLACK;
 use non::layout::COLUMNS;
 use non::layout::ROOM;
 use non::layout::ROWS;
@@ -13,7 +11,9 @@ use non::layout::counts_of;
 use non::layout::place_of;
 use non::layout::side_of;
 use non::layout::sizes_of;
-use non::layout::word_at;
+use non::palette::BITS;
+use non::palette::BLACK;
+use non::palette::word_at;
 use propagation::binary;
 use propagation::multicolor;
 use rules::LinePosition;
@@ -159,6 +159,7 @@ fn write_lines(lines: usize) {
     write_text(b" lines solved\n");
 }
 
+// Shows the board, and counts its open cells.
 fn show_board(card: &[u32; ROOM], coloured: bool, grid: &[u32]) -> usize {
     write_board(grid, side_of(card, COLUMNS), coloured, card);
     count_open(grid, coloured)

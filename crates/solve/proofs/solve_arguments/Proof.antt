@@ -1,10 +1,8 @@
+-- `solve::solve_arguments` is safe and ends: the arguments that are left fall.
 use Prim.Native.Nat.{_-_}
 use borrow.Author.Needs.{needs}
 use Rattle.solve.proofs.solve_arguments.Statement.{statement}
 use Rattle.solve.proofs.solve_arguments.Tie as tie
-use Rattle.solve.proofs.solve_arguments.Reads as reads
-use Rattle.solve.proofs.solve_arguments.Lts as lts
-use Rattle.solve.proofs.solve_argument.Reads as solve-argument-reads
 
 abbrev Inv-loop : tie.InvT-loop
 Inv-loop count i₀ i = Unit
@@ -12,27 +10,21 @@ Inv-loop count i₀ i = Unit
 abbrev μ-loop : tie.MeasureT-loop
 μ-loop count i₀ i = count - i
 
--- src/main.rt:56:5
 loop-holds : tie.Need-loop-holds Inv-loop μ-loop
 loop-holds c = search needs
 
--- src/main.rt:57:9
 solve-argument-requires : tie.Need-solve-argument-requires Inv-loop μ-loop
 solve-argument-requires c κs = search needs
 
--- src/main.rt:58:9
 add-i : tie.Need-add-i Inv-loop μ-loop
 add-i c = search needs
 
--- src/main.rt:56:5
 loop-less : tie.Need-loop-less Inv-loop μ-loop
 loop-less c = search needs
 
--- src/main.rt:56:5
 loop-again : tie.Need-loop-again Inv-loop μ-loop
 loop-again c = search needs
 
--- src/main.rt:54:1
 returns : tie.Need-returns Inv-loop μ-loop
 returns c = search needs
 

@@ -1,18 +1,14 @@
+-- `non::words::is_letter` meets its contract.
 use borrow.Author.Tests.{le-leb, lt-leb}
 use Rattle.non.proofs.words.is_letter.Statement.{statement}
 use Rattle.non.proofs.words.is_letter.Tie as tie
-use Rattle.non.proofs.words.is_letter.Reads as reads
-use Rattle.non.proofs.words.is_letter.Lts as lts
 
--- src/words.rt:41:9
 returns : tie.Need-returns
 returns c = simp (le-leb _ _ (c .if1 .taken))
 
--- src/words.rt:44:9
 returns-2 : tie.Need-returns-2
 returns-2 c = simp (lt-leb _ _ (c .before .if1 .left), le-leb _ _ (c .if2 .taken))
 
--- src/words.rt:37:1
 returns-3 : tie.Need-returns-3
 returns-3 c = simp (lt-leb _ _ (c .before .if1 .left), lt-leb _ _ (c .if2 .left))
 

@@ -1,20 +1,16 @@
-use borrow.Author.Tests.{not-true, not-false}
+-- `non::words::read_word` meets its contract: what is left to read gives the whole word.
+use mathlib.Core.Path.{sym, _∙_}
+use Prim.Native.Nat.{ℕ, _+_, _*_, _-_, _≤_}
 use native.Mathlib.Omega.{arith}
-use mathlib.Core.Path.{_≡_, sym, _∙_, ap}
-use Rattle.non.proofs.Worded.{base-above, most-above, most-below, worth-small, too-large, within-most, Reading, reading-none, reading-more, read-to, read-end, read-over}
-use Rattle.non.specs.Wording.{baseOf, worthOf, mostOf}
 use lib.ListN.{length, getD}
-use Prim.Native.Nat.{_+_, _*_, _-_, _≤_}
+use borrow.Author.Tests.{not-true, not-false}
 use borrow.Author.Needs.{needs}
+use Rattle.non.proofs.Worded.{base-above, most-above, most-below, worth-small, too-large, within-most}
+use Rattle.non.proofs.Worded.{Reading, reading-none, reading-more, read-to, read-end, read-over}
+use Rattle.non.specs.declared.words.Class.{Class}
+use Rattle.non.specs.Wording.{baseOf, mostOf}
 use Rattle.non.proofs.words.read_word.Statement.{statement}
 use Rattle.non.proofs.words.read_word.Tie as tie
-use Rattle.non.proofs.words.read_word.Reads as reads
-use Rattle.non.proofs.words.read_word.Lts as lts
-use Rattle.non.proofs.words.base_of.Reads as base-of-reads
-use Rattle.non.proofs.words.belongs.Reads as belongs-reads
-use Rattle.non.proofs.words.most_of.Reads as most-of-reads
-use Rattle.non.proofs.words.word_of.Reads as word-of-reads
-use Rattle.non.proofs.words.worth_of.Reads as worth-of-reads
 
 abbrev Inv-loop : tie.InvT-loop
 Inv-loop class text from base most value₀ end₀ value end = Reading class text from value end
@@ -24,89 +20,105 @@ abbrev μ-loop : tie.MeasureT-loop
 
 -- a byte's worth is below 256
 small : (c : tie.After-worth-of Inv-loop μ-loop) → c .worth-of .result ≤ 255
-small c = omega (arith, worth-small (c .before .before .before .before .before .before .before .before .before .args .class) (getD (c .before .before .before .before .before .before .before .before .before .args .text .now) (c .before .before .before .before .before .loop .end) 0) (omega (arith, c .before .before .before .shared-slice-known2 .given (c .before .before .before .before .before .loop .end))))
+small c =
+    let a = c .before .before .before .before .before .before .before .before .before .args in
+    let end = c .before .before .before .before .before .loop .end in
+    omega (arith, worth-small (a .class) (getD (a .text .now) end 0) (omega (arith, c .before .before .before .shared-slice-known2 .given end)))
+
+-- what is known after the tests
+abbrev class : tie.Else2 Inv-loop μ-loop → Class
+class c = c .before .before .before .before .before .before .before .before .before .before .args .class
+
+abbrev value : tie.Else2 Inv-loop μ-loop → ℕ
+value c = c .before .before .before .before .before .before .loop .value
 
 -- the longer value is small enough
-fitting : (c : tie.Else2 Inv-loop μ-loop) → c .before .before .before .before .before .before .loop .value * baseOf (c .before .before .before .before .before .before .before .before .before .before .args .class) + c .before .worth-of .result ≤ mostOf (c .before .before .before .before .before .before .before .before .before .before .args .class)
+fitting : (c : tie.Else2 Inv-loop μ-loop) → value c * baseOf (class c) + c .before .worth-of .result ≤ mostOf (class c)
 fitting c =
-    within-most (c .before .before .before .before .before .before .before .before .before .before .args .class) (c .before .before .before .before .before .before .loop .value) (c .before .worth-of .result) (small (c .before))
-    (rw (c .before .before .before .before .before .before .before .most-of .ensures, c .before .before .before .before .before .before .before .before .base-of .ensures) at (c .if2 .left))
+    let d = c .before .before .before .before .before in
+    let left = rw (d .before .before .most-of .ensures, d .before .before .before .base-of .ensures) at (c .if2 .left) in
+    within-most (class c) (value c) (c .before .worth-of .result) (small (c .before)) left
 
--- src/words.rt:106:9
 base-of-requires : tie.Need-base-of-requires Inv-loop μ-loop
 base-of-requires c κs = search needs
 
--- src/words.rt:107:9
 most-of-requires : tie.Need-most-of-requires Inv-loop μ-loop
 most-of-requires c κs = search needs
 
--- src/words.rt:110:5
 loop-holds : tie.Need-loop-holds Inv-loop μ-loop
 loop-holds c = reading-none _ _ _
 
--- src/words.rt:111:20
 shared-slice-read-byte : tie.Need-shared-slice-read-byte Inv-loop μ-loop
 shared-slice-read-byte c = search needs
 
--- src/words.rt:112:13
 belongs-requires : tie.Need-belongs-requires Inv-loop μ-loop
 belongs-requires c κs = search needs
 
--- src/words.rt:113:13
 word-of-requires : tie.Need-word-of-requires Inv-loop μ-loop
 word-of-requires c κs = search needs
 
--- src/words.rt:113:13
 returns : tie.Need-returns Inv-loop μ-loop
-returns c = c .word-of .ensures ∙ read-to (c .before .before .before .before .before .before .before .before .before .args .class) (c .before .before .before .before .before .before .before .before .before .args .text .now) (c .before .before .before .before .before .before .before .before .before .args .from) (c .before .before .before .before .before .loop .value) (c .before .before .before .before .before .loop .end) (c .before .before .before .before .loop-test .taken) (sym (c .before .before .belongs .ensures) ∙ not-true _ (c .before .if1 .taken)) (c .before .before .before .before .before .loop .inv)
+returns c =
+    let a = c .before .before .before .before .before .before .before .before .before .args in
+    let l = c .before .before .before .before .before .loop in
+    let out = sym (c .before .before .belongs .ensures) ∙ not-true _ (c .before .if1 .taken) in
+    c .word-of .ensures ∙ read-to (a .class) (a .text .now) (a .from) (l .value) (l .end) (c .before .before .before .before .loop-test .taken) out (l .inv)
 
--- src/words.rt:115:13
 worth-of-requires : tie.Need-worth-of-requires Inv-loop μ-loop
 worth-of-requires c κs = search needs
 
--- src/words.rt:116:21
 sub-if2 : tie.Need-sub-if2 Inv-loop μ-loop
 sub-if2 c = omega (arith, most-above (c .before .before .before .before .before .before .before .before .before .args .class), small c)
 
--- src/words.rt:116:20
 div-if2 : tie.Need-div-if2 Inv-loop μ-loop
 div-if2 c = omega (arith, base-above (c .before .before .before .before .before .before .before .before .before .args .class))
 
--- src/words.rt:117:13
 returns-2 : tie.Need-returns-2 Inv-loop μ-loop
-returns-2 c = read-over (c .before .before .before .before .before .before .before .before .before .before .args .class) (c .before .before .before .before .before .before .before .before .before .before .args .text .now) (c .before .before .before .before .before .before .before .before .before .before .args .from) (c .before .before .before .before .before .before .loop .value) (c .before .before .before .before .before .before .loop .end) (c .before .before .before .before .before .loop-test .taken) (sym (c .before .before .before .belongs .ensures) ∙ not-false _ (c .before .before .if1 .left))
-    (rw (c .before .worth-of .ensures) at (too-large (c .before .before .before .before .before .before .before .before .before .before .args .class) (c .before .before .before .before .before .before .loop .value) (c .before .worth-of .result) (small (c .before)) (rw (c .before .before .before .before .before .before .before .most-of .ensures, c .before .before .before .before .before .before .before .before .base-of .ensures) at (c .if2 .taken))))
-    (c .before .before .before .before .before .before .loop .inv)
+returns-2 c =
+    let d = c .before .before .before .before .before in
+    let a = d .before .before .before .before .before .args in
+    let l = d .before .loop in
+    let in-it = sym (c .before .before .before .belongs .ensures) ∙ not-false _ (c .before .before .if1 .left) in
+    let taken = rw (d .before .before .most-of .ensures, d .before .before .before .base-of .ensures) at (c .if2 .taken) in
+    let large = too-large (a .class) (l .value) (c .before .worth-of .result) (small (c .before)) taken in
+    read-over (a .class) (a .text .now) (a .from) (l .value) (l .end) (d .loop-test .taken) in-it
+    (rw (c .before .worth-of .ensures) at large) (l .inv)
 
--- src/words.rt:119:17
 mul-value : tie.Need-mul-value Inv-loop μ-loop
-mul-value c = rw (c .before .before .before .before .before .before .before .before .base-of .ensures) (omega (arith, fitting c, most-below (c .before .before .before .before .before .before .before .before .before .before .args .class)))
+mul-value c =
+    let d = c .before .before .before .before .before in
+    rw (d .before .before .before .base-of .ensures) (omega (arith, fitting c, most-below (class c)))
 
--- src/words.rt:119:17
 add-value : tie.Need-add-value Inv-loop μ-loop
-add-value c = rw (c .before .before .before .before .before .before .before .before .base-of .ensures) (omega (arith, fitting c, most-below (c .before .before .before .before .before .before .before .before .before .before .args .class)))
+add-value c =
+    let d = c .before .before .before .before .before in
+    rw (d .before .before .before .base-of .ensures) (omega (arith, fitting c, most-below (class c)))
 
--- src/words.rt:120:9
 add-end : tie.Need-add-end Inv-loop μ-loop
 add-end c = search needs
 
--- src/words.rt:110:5
 loop-less : tie.Need-loop-less Inv-loop μ-loop
 loop-less c = search needs
 
--- src/words.rt:110:5
 loop-again : tie.Need-loop-again Inv-loop μ-loop
-loop-again c = rw (c .before .before .before .before .before .before .before .before .base-of .ensures)
-    (reading-more (c .before .before .before .before .before .before .before .before .before .before .args .class) (c .before .before .before .before .before .before .before .before .before .before .args .text .now) (c .before .before .before .before .before .before .before .before .before .before .args .from) (c .before .before .before .before .before .before .loop .value) (c .before .before .before .before .before .before .loop .end) (c .before .before .before .before .before .before .loop .value * baseOf (c .before .before .before .before .before .before .before .before .before .before .args .class) + c .before .worth-of .result) (c .before .before .before .before .before .loop-test .taken) (sym (c .before .before .before .belongs .ensures) ∙ not-false _ (c .before .before .if1 .left))
-    (rw (c .before .worth-of .ensures)) (fitting c) (c .before .before .before .before .before .before .loop .inv))
+loop-again c =
+    let d = c .before .before .before .before .before in
+    let a = d .before .before .before .before .before .args in
+    let l = d .before .loop in
+    let in-it = sym (c .before .before .before .belongs .ensures) ∙ not-false _ (c .before .before .if1 .left) in
+    let w = l .value * baseOf (a .class) + c .before .worth-of .result in
+    rw (d .before .before .before .base-of .ensures)
+    (reading-more (a .class) (a .text .now) (a .from) (l .value) (l .end) w (d .loop-test .taken) in-it
+    (rw (c .before .worth-of .ensures)) (fitting c) (l .inv))
 
--- src/words.rt:122:5
 word-of-requires-2 : tie.Need-word-of-requires-2 Inv-loop μ-loop
 word-of-requires-2 c κs = search needs
 
--- src/words.rt:103:1
 returns-3 : tie.Need-returns-3 Inv-loop μ-loop
-returns-3 c = c .word-of2 .ensures ∙ read-end (c .before .before .before .before .before .before .args .class) (c .before .before .before .before .before .before .args .text .now) (c .before .before .before .before .before .before .args .from) (c .before .before .loop .value) (c .before .before .loop .end) (c .before .loop-test .left) (c .before .before .loop .inv)
+returns-3 c =
+    let a = c .before .before .before .before .before .before .args in
+    let l = c .before .before .loop in
+    c .word-of2 .ensures ∙ read-end (a .class) (a .text .now) (a .from) (l .value) (l .end) (c .before .loop-test .left) (l .inv)
 
 pub read-word-spec : {M : Type 1} → statement M
 read-word-spec =

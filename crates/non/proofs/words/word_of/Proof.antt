@@ -1,14 +1,11 @@
+-- `non::words::word_of` meets its contract.
 use borrow.Author.Tests.{eq-eqb, ne-eqb}
 use Rattle.non.proofs.words.word_of.Statement.{statement}
 use Rattle.non.proofs.words.word_of.Tie as tie
-use Rattle.non.proofs.words.word_of.Reads as reads
-use Rattle.non.proofs.words.word_of.Lts as lts
 
--- src/words.rt:125:9
 returns : tie.Need-returns
 returns c = simp (eq-eqb _ _ (c .if1 .taken))
 
--- src/words.rt:121:1
 returns-2 : tie.Need-returns-2
 returns-2 c = simp (ne-eqb _ _ (c .if1 .left))
 

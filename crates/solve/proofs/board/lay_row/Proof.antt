@@ -1,14 +1,9 @@
-use lib.ListN.{length}
+-- `solve::board::lay_row` is safe and ends: the cells that are left fall.
 use Prim.Native.Nat.{_≤_, _-_}
+use lib.ListN.{length}
 use borrow.Author.Needs.{needs}
 use Rattle.solve.proofs.board.lay_row.Statement.{statement}
 use Rattle.solve.proofs.board.lay_row.Tie as tie
-use Rattle.solve.proofs.board.lay_row.Reads as reads
-use Rattle.solve.proofs.board.lay_row.Lts as lts
-use Rattle.solve.proofs.board.put.Reads as put-reads
-use Rattle.solve.proofs.board.put_word.Reads as put-word-reads
-use Rattle.solve.proofs.board.set_shown.Reads as set-shown-reads
-use Rattle.solve.proofs.board.word_shown.Reads as word-shown-reads
 
 abbrev Inv-loop : tie.InvT-loop
 Inv-loop cells coloured card largest out₀ count₀ i₀ out count i = i ≤ length cells
@@ -16,47 +11,36 @@ Inv-loop cells coloured card largest out₀ count₀ i₀ out count i = i ≤ le
 abbrev μ-loop : tie.MeasureT-loop
 μ-loop cells coloured card largest out₀ count₀ i₀ out count i = length cells - i
 
--- src/board.rt:95:5
 loop-holds : tie.Need-loop-holds Inv-loop μ-loop
 loop-holds c = search needs
 
--- src/board.rt:96:57
 mul-set-shown : tie.Need-mul-set-shown Inv-loop μ-loop
 mul-set-shown c = search needs
 
--- src/board.rt:96:57
 shared-slice-read-set-shown : tie.Need-shared-slice-read-set-shown Inv-loop μ-loop
 shared-slice-read-set-shown c = search needs
 
--- src/board.rt:96:37
 set-shown-requires : tie.Need-set-shown-requires Inv-loop μ-loop
 set-shown-requires c κs = search needs
 
--- src/board.rt:96:13
 word-shown-requires : tie.Need-word-shown-requires Inv-loop μ-loop
 word-shown-requires c κs = search needs
 
--- src/board.rt:97:9
 put-word-requires : tie.Need-put-word-requires Inv-loop μ-loop
 put-word-requires c κs = search needs
 
--- src/board.rt:98:9
 add-i : tie.Need-add-i Inv-loop μ-loop
 add-i c = search needs
 
--- src/board.rt:100:9
 put-requires : tie.Need-put-requires Inv-loop μ-loop
 put-requires c κs = search needs
 
--- src/board.rt:95:5
 loop-less : tie.Need-loop-less Inv-loop μ-loop
 loop-less c = search needs
 
--- src/board.rt:95:5
 loop-again : tie.Need-loop-again Inv-loop μ-loop
 loop-again c = search needs
 
--- src/board.rt:86:1
 returns : tie.Need-returns Inv-loop μ-loop
 returns c = search needs
 

@@ -1,9 +1,7 @@
+-- `solve::board::put_word` is safe and ends: the power falls.
 use borrow.Author.Needs.{needs}
 use Rattle.solve.proofs.board.put_word.Statement.{statement}
 use Rattle.solve.proofs.board.put_word.Tie as tie
-use Rattle.solve.proofs.board.put_word.Reads as reads
-use Rattle.solve.proofs.board.put_word.Lts as lts
-use Rattle.solve.proofs.board.put_byte.Reads as put-byte-reads
 
 abbrev Inv-loop : tie.InvT-loop
 Inv-loop out₀ from word largest count₀ power₀ out count power = Unit
@@ -11,31 +9,24 @@ Inv-loop out₀ from word largest count₀ power₀ out count power = Unit
 abbrev μ-loop : tie.MeasureT-loop
 μ-loop out₀ from word largest count₀ power₀ out count power = power
 
--- src/board.rt:77:5
 loop-holds : tie.Need-loop-holds Inv-loop μ-loop
 loop-holds c = search needs
 
--- src/board.rt:78:21
 div-byte : tie.Need-div-byte Inv-loop μ-loop
 div-byte c = search needs
 
--- src/board.rt:78:20
 cast-byte : tie.Need-cast-byte Inv-loop μ-loop
 cast-byte c = search needs
 
--- src/board.rt:79:9
 put-byte-requires : tie.Need-put-byte-requires Inv-loop μ-loop
 put-byte-requires c κs = search needs
 
--- src/board.rt:77:5
 loop-less : tie.Need-loop-less Inv-loop μ-loop
 loop-less c = search needs
 
--- src/board.rt:77:5
 loop-again : tie.Need-loop-again Inv-loop μ-loop
 loop-again c = search needs
 
--- src/board.rt:74:1
 returns : tie.Need-returns Inv-loop μ-loop
 returns c = search needs
 

@@ -1,10 +1,8 @@
+-- `solve::solving::full_set` is safe and ends: the bits that are left fall.
 use Prim.Native.Nat.{_≤_, _-_}
 use borrow.Author.Needs.{needs}
 use Rattle.solve.proofs.solving.full_set.Statement.{statement}
 use Rattle.solve.proofs.solving.full_set.Tie as tie
-use Rattle.solve.proofs.solving.full_set.Reads as reads
-use Rattle.solve.proofs.solving.full_set.Lts as lts
-use Rattle.non.proofs.layout.word_at.Reads as word-at-reads
 
 abbrev Inv-loop : tie.InvT-loop
 Inv-loop card set₀ bit₀ set bit = bit ≤ 32
@@ -12,31 +10,24 @@ Inv-loop card set₀ bit₀ set bit = bit ≤ 32
 abbrev μ-loop : tie.MeasureT-loop
 μ-loop card set₀ bit₀ set bit = 32 - bit
 
--- src/solving.rt:64:5
 loop-holds : tie.Need-loop-holds Inv-loop μ-loop
 loop-holds c = search needs
 
--- src/solving.rt:65:12
 word-at-requires : tie.Need-word-at-requires Inv-loop μ-loop
 word-at-requires c κs = search needs
 
--- src/solving.rt:66:25
 shl-set : tie.Need-shl-set Inv-loop μ-loop
 shl-set c = search needs
 
--- src/solving.rt:68:9
 add-bit : tie.Need-add-bit Inv-loop μ-loop
 add-bit c = search needs
 
--- src/solving.rt:64:5
 loop-less : tie.Need-loop-less Inv-loop μ-loop
 loop-less c = search needs
 
--- src/solving.rt:64:5
 loop-again : tie.Need-loop-again Inv-loop μ-loop
 loop-again c = search needs
 
--- src/solving.rt:61:1
 returns : tie.Need-returns Inv-loop μ-loop
 returns c = search needs
 
