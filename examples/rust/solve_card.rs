@@ -81,7 +81,7 @@ fn main() {
     println!("full run: {answer:?}");
     show_board(&grid);
 
-    // The player marks a cell; the run from there solves no more lines than it must.
+    // The player marks a cell; the run from there takes up its row and its column, and the lines that follow from them.
     grid[3 * SIDE + 4] = RED;
     let answer = sp_run_point(SIDE, SIDE, 4, 3, &mut grid, rows, columns, &mut report, &mut memo, &mut stack);
     println!("red at (4, 3): {answer:?}, cells {:?}", &report[..answer.entries]);
