@@ -107,9 +107,9 @@ class Reading:
         return (size, self.colour_of(word)), rest
 
     def take_clue(self, name, text, place):
-        blocks, rest = [], text[:MOST_BYTES]
-        if re.fullmatch(r"0+", rest):
-            rest = ""
+        if len(text) > MOST_BYTES:
+            raise Fault("the line is too long")
+        blocks, rest = [], "" if text == "0" else text
         while rest:
             if len(blocks) == MOST_BLOCKS:
                 raise Fault("the line has more than 64 blocks (3)")
@@ -122,8 +122,6 @@ class Reading:
             if len(blocks) == MOST_BLOCKS:
                 raise Fault("the line has more than 64 blocks (3)")
             rest = rest[1:] or self.take_block("")
-        if len(text) > MOST_BYTES:
-            raise Fault("the line is too long")
         self.lists[name].append(blocks)
         self.places[name].append(place)
 

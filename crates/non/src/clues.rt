@@ -15,9 +15,6 @@ use crate::layout::ROOM;
 use crate::layout::SIDE;
 use crate::layout::SIZES;
 use crate::palette::know_word;
-use crate::words::Class;
-use crate::words::Word;
-use crate::words::read_word;
 ghost use Prim.Native.Nat.{_≤_};
 
 // The most blocks of a line.
@@ -64,13 +61,10 @@ fn take_block(text: &[u8], at: usize, card: &mut [u32; ROOM], way: usize) -> Aft
     }
 }
 
-// Notes that a line of a way was read: its number of blocks, and the line of the file. One that was cut cannot be known.
-fn end_clue(card: &mut [u32; ROOM], way: usize, count: u32, line: u32, cut: bool) -> Fault
+// Notes that a line of a way was read: its number of blocks, and the line of the file.
+fn end_clue(card: &mut [u32; ROOM], way: usize, count: u32, line: u32)
     requires { ⌜ way ≤ 1 ⌝ }
 {
-    if cut {
-        return faults::LONG_LINE;
-    }
     let read = card[READ + way];
     if read < 64 {
         let index = way * 64 + read as usize;
@@ -78,36 +72,26 @@ fn end_clue(card: &mut [u32; ROOM], way: usize, count: u32, line: u32, cut: bool
         card[PLACES + index] = line;
         card[READ + way] = read + 1;
     }
-    faults::NONE
 }
 
 // Whether a line has no blocks: it is empty, or 0 alone.
 fn is_none(text: &[u8]) -> bool {
-    let word = read_word(Class::Number, text, 0);
-    match word {
-        Word::Is { value, end } => {
-            if value == 0 {
-                return end == text.len();
-            }
-            false
-        }
-        Word::Long => false,
-        Word::Missing => text.len() == 0,
+    if text.len() == 0 {
+        return true;
     }
+    if text.len() == 1 {
+        return text[0] == b'0';
+    }
+    false
 }
 
 // Takes the next line of a list. `line` is its number in the file.
-pub(crate) fn take_clue(
-    text: &[u8],
-    cut: bool,
-    line: u32,
-    card: &mut [u32; ROOM],
-    way: usize,
-) -> Fault
+pub(crate) fn take_clue(text: &[u8], line: u32, card: &mut [u32; ROOM], way: usize) -> Fault
     requires { ⌜ way ≤ 1 ⌝ }
 {
     if is_none(text) {
-        return end_clue(card, way, 0, line, cut);
+        end_clue(card, way, 0, line);
+        return faults::NONE;
     }
     let mut at = 0;
     let mut count = 0;
@@ -116,7 +100,10 @@ pub(crate) fn take_clue(
         let after = take_block(text, at, card, way);
         match after {
             After::Comma(next) => at = next,
-            After::End => return end_clue(card, way, count, line, cut),
+            After::End => {
+                end_clue(card, way, count, line);
+                return faults::NONE;
+            }
             After::Bad(fault) => return fault,
         }
     }

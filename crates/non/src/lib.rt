@@ -23,6 +23,7 @@ use pieces::Found;
 use pieces::Next;
 use pieces::next_line;
 use pieces::open;
+ghost use Prim.Native.Nat.{_≤_};
 
 // What a file holds: a card; or a fault in a line of it; or one that shows at its end, after that line; or nothing that can be read.
 pub enum Outcome {
@@ -37,13 +38,23 @@ enum Step {
     Ended(Outcome),
 }
 
+// Takes a line of a list, of which nothing may be cut.
+fn take_listed(text: &[u8], cut: bool, line: u32, card: &mut [u32; ROOM], way: usize) -> Fault
+    requires { ⌜ way ≤ 1 ⌝ }
+{
+    if cut {
+        return faults::LONG_LINE;
+    }
+    take_clue(text, line, card, way)
+}
+
 // Takes a line of the file that is not a comment alone.
 fn take_line(text: &[u8], cut: bool, line: u32, card: &mut [u32; ROOM]) -> Fault {
     if is_wanted(card, ROWS) {
-        return take_clue(text, cut, line, card, ROWS);
+        return take_listed(text, cut, line, card, ROWS);
     }
     if is_wanted(card, COLUMNS) {
-        return take_clue(text, cut, line, card, COLUMNS);
+        return take_listed(text, cut, line, card, COLUMNS);
     }
     take_heading(text, card)
 }

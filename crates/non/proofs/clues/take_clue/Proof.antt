@@ -5,10 +5,10 @@ use Rattle.non.proofs.clues.take_clue.Statement.{statement}
 use Rattle.non.proofs.clues.take_clue.Tie as tie
 
 abbrev Inv-loop : tie.InvT-loop
-Inv-loop text cut line card₀ way at₀ count₀ card at count = count ≤ 64
+Inv-loop text line card₀ way at₀ count₀ card at count = count ≤ 64
 
 abbrev μ-loop : tie.MeasureT-loop
-μ-loop text cut line card₀ way at₀ count₀ card at count = 64 - count
+μ-loop text line card₀ way at₀ count₀ card at count = 64 - count
 
 is-none-requires : tie.Need-is-none-requires Inv-loop μ-loop
 is-none-requires c κs = search needs
