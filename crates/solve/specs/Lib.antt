@@ -1,1 +1,2 @@
+-- `Shown` is what a person is shown of a cell.
 pub mod Shown
