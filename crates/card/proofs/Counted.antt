@@ -13,14 +13,14 @@ use lib.Seq.{take-suc}
 use Rattle.rules.specs.Block.{blacks, blocks, illegal}
 use Rattle.rules.specs.Card.{Card, sum, part}
 use Rattle.rules.specs.CardRules.{countsFit, roomFits, crowded, cardRules}
-use Rattle.rules.specs.Refusal.{Rule, _when_, verdict, sideRules}
+use Rattle.rules.specs.Refusal.{Rule, _when_, verdict, sideRules, memoSize, stackSize}
 use Rattle.rules.specs.declared.Refusal.the-variants.{BadRoom, TooManyBlocks, BadBlock}
 use Rattle.rules.specs.declared.Refusal.{Refusal}
 use Rattle.rules.specs.declared.Verdict.the-variants.{Fine, Bad}
 use Rattle.rules.proofs.Tests.{both-true}
 use Rattle.rules.proofs.Searching.{not-above}
 use Rattle.rules.proofs.Verdicts.{append-bad, append-fine, append-parts, fine-cons, sides-fine}
-use Rattle.card.specs.Steps.{Counts, RightCard, countRules, legalRules, testRules}
+use Rattle.card.specs.Steps.{Counts, RightCard, listRules, legalRules, testRules}
 
 -- ---- sums
 
@@ -46,12 +46,12 @@ sum-all (x ∷ c) (suc n) e = ap (λ k. x + k) (sum-all c n (omega arith))
 
 -- ---- what the tests tell
 
-pub record Fitting (n : ℕ) (counts : List ℕ) (sizes colours : ℕ) : Type 0 where
+pub record FittingLists (n : ℕ) (counts : List ℕ) (sizes colours : ℕ) : Type 0 where
   pub lines : length counts ≡ n
   pub total : sum counts ≡ sizes
   pub pairs : colours ≡ sizes
 
-pub fitting : (n : ℕ) (counts : List ℕ) (sizes colours : ℕ) → countsFit n counts sizes colours ≡ true → Fitting n counts sizes colours
+pub fitting : (n : ℕ) (counts : List ℕ) (sizes colours : ℕ) → countsFit n counts sizes colours ≡ true → FittingLists n counts sizes colours
 fitting n counts sizes colours e =
     let p = both-true (eqb (length counts) n) (eqb (sum counts) sizes && eqb colours sizes) e in
     let q = both-true (eqb (sum counts) sizes) (eqb colours sizes) (p .1) in
@@ -64,10 +64,10 @@ pub record Known (w h cells : ℕ) (rc : List ℕ) (rows rowColours : ℕ) (cc :
   pub high : 0 < h
   pub high-most : h ≤ 64
   pub size : cells ≡ w * h
-  pub memos : 4160 ≤ memo
-  pub stacks : 128 ≤ stack
-  pub row-lists : Fitting h rc rows rowColours
-  pub column-lists : Fitting w cc columns columnColours
+  pub memos : memoSize ≤ memo
+  pub stacks : stackSize ≤ stack
+  pub row-lists : FittingLists h rc rows rowColours
+  pub column-lists : FittingLists w cc columns columnColours
   pub row-few : (i : ℕ) → getD rc i 0 ≤ 64
   pub column-few : (i : ℕ) → getD cc i 0 ≤ 64
 
@@ -100,7 +100,7 @@ tested a b d e f q =
 
 module _ (w h cells : ℕ) (rc : List ℕ) (rows rowColours : ℕ) (cc : List ℕ) (columns columnColours memo stack : ℕ) where
   abbrev pub counting : List Rule
-  counting = countRules w h cells rc rows rowColours cc columns columnColours memo stack
+  counting = listRules w h cells rc rows rowColours cc columns columnColours memo stack
 
   pub counts-known : verdict counting ≡ Fine → Known w h cells rc rows rowColours cc columns columnColours memo stack
   counts-known e =
@@ -110,8 +110,8 @@ module _ (w h cells : ℕ) (rc : List ℕ) (rows rowColours : ℕ) (cc : List �
       let p = append-parts (sideRules w h) (testRules a b d (crowded rc) (crowded cc)) e in
       let s = sides-fine w h (p .0) in
       let t = tested a b d (crowded rc) (crowded cc) (p .1) in
-      let u = both-true (eqb cells (w * h)) (leb 4160 memo && leb 128 stack) (t .room) in
-      let v = both-true (leb 4160 memo) (leb 128 stack) (u .1) in
+      let u = both-true (eqb cells (w * h)) (leb memoSize memo && leb stackSize stack) (t .room) in
+      let v = both-true (leb memoSize memo) (leb stackSize stack) (u .1) in
       record {
         wide = s .0;
         wide-most = s .1;

@@ -12,10 +12,6 @@ use Rattle.rules.specs.declared.LinePosition.{LinePosition}
 use Rattle.rules.specs.declared.LinePosition.the-variants.{Row, Column}
 use Rattle.rules.specs.declared.Refusal.the-variants.{BadRoom, TooManyBlocks, BadBlock}
 
--- the card of the six lent lists
-abbrev pub cardOf : List ℕ → List ℕ → List ℕ → List ℕ → List ℕ → List ℕ → Card
-cardOf rc rs rt cc cs ct = record { rowCounts = rc; rowSizes = rs; rowColours = rt; columnCounts = cc; columnSizes = cs; columnColours = ct }
-
 -- ---- a line's part
 
 -- the part of the row list or of the column list that belongs to a line
@@ -41,8 +37,8 @@ testRules roomy rowsFit columnsFit rowsCrowded columnsCrowded =
     ∷ []
 
 -- rules 1 to 3, by the counts and the other lists' lengths
-abbrev pub countRules : ℕ → ℕ → ℕ → List ℕ → ℕ → ℕ → List ℕ → ℕ → ℕ → ℕ → ℕ → List Rule
-countRules w h cells rc rows rowColours cc columns columnColours memo stack =
+abbrev pub listRules : ℕ → ℕ → ℕ → List ℕ → ℕ → ℕ → List ℕ → ℕ → ℕ → ℕ → ℕ → List Rule
+listRules w h cells rc rows rowColours cc columns columnColours memo stack =
     sideRules w h
     ++ testRules (roomFits w h cells memo stack) (countsFit h rc rows rowColours) (countsFit w cc columns columnColours) (crowded rc) (crowded cc)
 

@@ -8,10 +8,10 @@ use rules::judge::any_illegal;
 use rules::judge::judge_sides;
 ghost use mathlib.Core.Path.{_≡_};
 ghost use Prim.Native.Nat.{_≤_};
-ghost use Rattle.rules.specs.Card.{blackCard};
+ghost use Rattle.rules.specs.Card.{blackCard, cardOf};
 ghost use Rattle.rules.specs.CardRules.{countsFit, roomFits, cardRules};
 ghost use Rattle.rules.specs.Refusal.{verdict};
-ghost use Rattle.card.specs.Steps.{cardOf, testRules, countRules, legalRules};
+ghost use Rattle.card.specs.Steps.{testRules, listRules, legalRules};
 
 // Whether one direction's lists have the lengths that they must have.
 fn counts_fit(lines: usize, counts: &[u32], sizes: usize, colours: usize) -> bool
@@ -83,7 +83,7 @@ fn judge_counts(
     memo: usize,
     stack: usize,
 ) -> Verdict
-    ensures { λ r. ⌜ r ≡ verdict (countRules width height cells (now («row_counts» .entry)) «row_sizes» «row_colours» (now («column_counts» .entry)) «column_sizes» «column_colours» memo stack) ⌝ }
+    ensures { λ r. ⌜ r ≡ verdict (listRules width height cells (now («row_counts» .entry)) «row_sizes» «row_colours» (now («column_counts» .entry)) «column_sizes» «column_colours» memo stack) ⌝ }
 {
     let v = judge_sides(width, height);
     match v {

@@ -10,5 +10,5 @@ use Rattle.rules.proofs.Verdicts.{verdict-lowest}
 use Rattle.clue.specs.Calls.{codeRules}
 
 -- from_line
-pub line-lowest : (n : ℕ) (fits bad : Bool) {w : Refusal} → verdict (lengthRules n ++ codeRules fits bad) ≡ Bad w → Lowest (lengthRules n ++ codeRules fits bad) w
-line-lowest n fits bad e = verdict-lowest 0 (lengthRules n ++ codeRules fits bad) refl e
+pub clue-lowest : (n : ℕ) (fits bad : Bool) {w : Refusal} → verdict (lengthRules n ++ codeRules fits bad) ≡ Bad w → Lowest (lengthRules n ++ codeRules fits bad) w
+clue-lowest n fits bad e = verdict-lowest 0 (lengthRules n ++ codeRules fits bad) refl e

@@ -61,9 +61,9 @@ module _ (ns out : List ℕ) where
   same-count : verdict (descriptionRules (binary ns) (roomy (binary ns) out)) ≡ verdict (countRules true (length ns) (leb (length ns) (length out)))
   same-count = ap (λ n. verdict (countRules true n (leb n (length out)))) (length-map ns black)
 
-  pub binary-refused : {w : Refusal} → verdict (countRules true (length ns) (leb (length ns) (length out))) ≡ Bad w
+  pub described-refused : {w : Refusal} → verdict (countRules true (length ns) (leb (length ns) (length out))) ≡ Bad w
       → BinaryDescription (binary ns) out (Refused w) out
-  binary-refused e = writes-refused (same-count ∙ e)
+  described-refused e = writes-refused (same-count ∙ e)
 
   module _ (e : verdict (countRules true (length ns) (leb (length ns) (length out))) ≡ Fine) where
     binary-counted : Counted true (length ns) (leb (length ns) (length out))
@@ -78,10 +78,10 @@ module _ (ns out : List ℕ) where
     pub binary-retainable : Retainable ns (take (length ns) (replicate 64 2)) out (replicate 64 0)
     binary-retainable = record { equal = sym (blacks-length (length ns) 64 binary-few); sizes-room = room; colours-room = binary-few }
 
-    pub binary-done : {n : ℕ} {out′ tints tints′ : List ℕ}
+    pub described-done : {n : ℕ} {out′ tints tints′ : List ℕ}
         → Retained binaryDefault (blocks ns (take (length ns) (replicate 64 2))) out tints n out′ tints′
         → BinaryDescription (binary ns) out (Done n) out′
-    binary-done {n} {out′} p =
+    described-done {n} {out′} p =
         let bs = described binaryDefault (map black ns) in
         let q : Put out 0 (sizesOf bs) n out′ =
         subst (λ (l : List Block). Put out 0 (sizesOf (described binaryDefault l)) n out′) (black-blocks ns 64 binary-few)

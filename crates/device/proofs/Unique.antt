@@ -13,7 +13,7 @@ use Rattle.positions.proofs.Unique.{positions-number, color-ranges}
 use Rattle.picture.specs.Calls.{BinaryClues, ColouredClues}
 use Rattle.picture.proofs.Unique.{binary-clues, coloured-clues}
 use Rattle.propagation.specs.Calls.{Ran}
-use Rattle.device.specs.Replies.{Told, tellCount, tellClues, tellPositions, flat}
+use Rattle.device.specs.Replies.{Told, tellCount, tellClues, tellPositions, tellRun}
 use Rattle.device.specs.declared.count.CountReply.{CountReply}
 use Rattle.device.specs.declared.blocks.PositionsReply.{PositionsReply}
 use Rattle.device.specs.declared.clues.CluesReply.{CluesReply}
@@ -61,8 +61,8 @@ coloured-clues-one p q =
 
 -- all four runs. If the input is refused by checking, the memo and the stack are the same, too
 pub run-one : {rules : List Rule} {end : Outcome} {board grid report memo stack g p m k g₂ p₂ m₂ k₂ : List ℕ} {a b : RunReply}
-    → Told flat (λ t. Ran rules end board grid report memo stack t g p m k) a
-    → Told flat (λ t. Ran rules end board grid report memo stack t g₂ p₂ m₂ k₂) b
+    → Told tellRun (λ t. Ran rules end board grid report memo stack t g p m k) a
+    → Told tellRun (λ t. Ran rules end board grid report memo stack t g₂ p₂ m₂ k₂) b
     → (a ≡ b) × (g ≡ g₂) × (p ≡ p₂) × ((w : Refusal) → verdict rules ≡ Bad w → (m ≡ m₂) × (k ≡ k₂))
 run-one p q =
     let s = p .says in

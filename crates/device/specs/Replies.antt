@@ -43,16 +43,16 @@ tellPositions (number.Refused w) = record { number = refusalNumber w; positions 
 -- ---- a run
 
 -- the kind and the index of a line; where there is none they are 2 and 0
-abbrev pub kindOf : Option LinePosition → ℕ
-kindOf (some (Row y)) = 0
-kindOf (some (Column x)) = 1
-kindOf none = 2
+abbrev pub lineKind : Option LinePosition → ℕ
+lineKind (some (Row y)) = 0
+lineKind (some (Column x)) = 1
+lineKind none = 2
 
-abbrev pub indexOf : Option LinePosition → ℕ
-indexOf (some (Row y)) = y .0
-indexOf (some (Column x)) = x .0
-indexOf none = 0
+abbrev pub lineIndex : Option LinePosition → ℕ
+lineIndex (some (Row y)) = y .0
+lineIndex (some (Column x)) = x .0
+lineIndex none = 0
 
 -- the one struct for a reply
-abbrev pub flat : Reply → RunReply
-flat t = record { number = t .number; «line_kind» = kindOf (t .line); «line_index» = indexOf (t .line); entries = t .entries; lines = t .lines }
+abbrev pub tellRun : Reply → RunReply
+tellRun t = record { number = t .number; «line_kind» = lineKind (t .line); «line_index» = lineIndex (t .line); entries = t .entries; lines = t .lines }

@@ -8,12 +8,11 @@ use rules::refusal_number;
 use run::RunAnswer;
 ghost use mathlib.Core.Path.{_≡_};
 ghost use mathlib.Core.Option.{some, none};
-ghost use Rattle.rules.specs.Card.{blackCard};
-ghost use Rattle.card.specs.Steps.{cardOf};
+ghost use Rattle.rules.specs.Card.{blackCard, cardOf};
 ghost use Rattle.run.specs.declared.Start.the-variants.{Full, Point};
 ghost use Rattle.run.specs.Ends.{replyOf};
-ghost use Rattle.propagation.specs.Calls.{Runs, RunsBinary};
-ghost use Rattle.device.specs.Replies.{Told, flat};
+ghost use Rattle.propagation.specs.Calls.{RunsColoured, RunsBinary};
+ghost use Rattle.device.specs.Replies.{Told, tellRun};
 
 // What a run answers: document 01's number; the line that refused, its kind 0 for a row, 1 for a column and 2 for none, whose index is 0;
 // the entries written to the report; the lines solved. A refusal by checking has no line and no counts.
@@ -27,7 +26,7 @@ pub struct RunReply {
 }
 
 fn reply_without_line(number: u32, entries: usize, lines: usize) -> RunReply
-    ensures { λ r. ⌜ r ≡ flat (record { number = number; line = none; entries = entries; lines = lines }) ⌝ }
+    ensures { λ r. ⌜ r ≡ tellRun (record { number = number; line = none; entries = entries; lines = lines }) ⌝ }
 {
     RunReply {
         number,
@@ -39,7 +38,7 @@ fn reply_without_line(number: u32, entries: usize, lines: usize) -> RunReply
 }
 
 fn reply_with_line(line: LinePosition, entries: usize, lines: usize) -> RunReply
-    ensures { λ r. ⌜ r ≡ flat (record { number = 8; line = some line; entries = entries; lines = lines }) ⌝ }
+    ensures { λ r. ⌜ r ≡ tellRun (record { number = 8; line = some line; entries = entries; lines = lines }) ⌝ }
 {
     match line {
         LinePosition::Row(y) => RunReply {
@@ -60,7 +59,7 @@ fn reply_with_line(line: LinePosition, entries: usize, lines: usize) -> RunReply
 }
 
 fn reply_of(answer: RunAnswer) -> RunReply
-    ensures { λ r. ⌜ r ≡ flat (replyOf answer) ⌝ }
+    ensures { λ r. ⌜ r ≡ tellRun (replyOf answer) ⌝ }
 {
     match answer {
         RunAnswer::Done { entries, lines } => reply_without_line(0, entries, lines),
@@ -89,7 +88,7 @@ pub extern "C" fn sp_run<'a, 'b>(
     memo: &mut [u8],
     stack: &mut [u32],
 ) -> RunReply
-    ensures { λ r. ⌜ Told flat (λ t. Runs width height Full (cardOf (now («row_counts» .entry)) (now («row_sizes» .entry)) (now («row_colours» .entry)) (now («column_counts» .entry)) (now («column_sizes» .entry)) (now («column_colours» .entry))) (now (grid .entry)) (now (report .entry)) (now (memo .entry)) (now (stack .entry)) t (now (grid .exit)) (now (report .exit)) (now (memo .exit)) (now (stack .exit))) r ⌝ }
+    ensures { λ r. ⌜ Told tellRun (λ t. RunsColoured width height Full (cardOf (now («row_counts» .entry)) (now («row_sizes» .entry)) (now («row_colours» .entry)) (now («column_counts» .entry)) (now («column_sizes» .entry)) (now («column_colours» .entry))) (now (grid .entry)) (now (report .entry)) (now (memo .entry)) (now (stack .entry)) t (now (grid .exit)) (now (report .exit)) (now (memo .exit)) (now (stack .exit))) r ⌝ }
 {
     reply_of(multicolor::run(
         width,
@@ -125,7 +124,7 @@ pub extern "C" fn sp_run_point<'a, 'b>(
     memo: &mut [u8],
     stack: &mut [u32],
 ) -> RunReply
-    ensures { λ r. ⌜ Told flat (λ t. Runs width height (Point (record { 0 = x }) (record { 0 = y })) (cardOf (now («row_counts» .entry)) (now («row_sizes» .entry)) (now («row_colours» .entry)) (now («column_counts» .entry)) (now («column_sizes» .entry)) (now («column_colours» .entry))) (now (grid .entry)) (now (report .entry)) (now (memo .entry)) (now (stack .entry)) t (now (grid .exit)) (now (report .exit)) (now (memo .exit)) (now (stack .exit))) r ⌝ }
+    ensures { λ r. ⌜ Told tellRun (λ t. RunsColoured width height (Point (record { 0 = x }) (record { 0 = y })) (cardOf (now («row_counts» .entry)) (now («row_sizes» .entry)) (now («row_colours» .entry)) (now («column_counts» .entry)) (now («column_sizes» .entry)) (now («column_colours» .entry))) (now (grid .entry)) (now (report .entry)) (now (memo .entry)) (now (stack .entry)) t (now (grid .exit)) (now (report .exit)) (now (memo .exit)) (now (stack .exit))) r ⌝ }
 {
     reply_of(multicolor::run_point(
         width,
@@ -159,7 +158,7 @@ pub extern "C" fn sp_run_binary<'a>(
     memo: &mut [u8],
     stack: &mut [u32],
 ) -> RunReply
-    ensures { λ r. ⌜ Told flat (λ t. RunsBinary width height Full (blackCard (now («row_counts» .entry)) (now («row_sizes» .entry)) (now («column_counts» .entry)) (now («column_sizes» .entry))) (now (grid .entry)) (now (report .entry)) (now (memo .entry)) (now (stack .entry)) t (now (grid .exit)) (now (report .exit)) (now (memo .exit)) (now (stack .exit))) r ⌝ }
+    ensures { λ r. ⌜ Told tellRun (λ t. RunsBinary width height Full (blackCard (now («row_counts» .entry)) (now («row_sizes» .entry)) (now («column_counts» .entry)) (now («column_sizes» .entry))) (now (grid .entry)) (now (report .entry)) (now (memo .entry)) (now (stack .entry)) t (now (grid .exit)) (now (report .exit)) (now (memo .exit)) (now (stack .exit))) r ⌝ }
 {
     reply_of(binary::run(
         width,
@@ -191,7 +190,7 @@ pub extern "C" fn sp_run_binary_point<'a>(
     memo: &mut [u8],
     stack: &mut [u32],
 ) -> RunReply
-    ensures { λ r. ⌜ Told flat (λ t. RunsBinary width height (Point (record { 0 = x }) (record { 0 = y })) (blackCard (now («row_counts» .entry)) (now («row_sizes» .entry)) (now («column_counts» .entry)) (now («column_sizes» .entry))) (now (grid .entry)) (now (report .entry)) (now (memo .entry)) (now (stack .entry)) t (now (grid .exit)) (now (report .exit)) (now (memo .exit)) (now (stack .exit))) r ⌝ }
+    ensures { λ r. ⌜ Told tellRun (λ t. RunsBinary width height (Point (record { 0 = x }) (record { 0 = y })) (blackCard (now («row_counts» .entry)) (now («row_sizes» .entry)) (now («column_counts» .entry)) (now («column_sizes» .entry))) (now (grid .entry)) (now (report .entry)) (now (memo .entry)) (now (stack .entry)) t (now (grid .exit)) (now (report .exit)) (now (memo .exit)) (now (stack .exit))) r ⌝ }
 {
     reply_of(binary::run_point(
         width,

@@ -8,7 +8,7 @@ use lib.Dec.{T}
 use lib.IntN.{ℤ, pos, subℕ}
 use Rattle.rules.specs.Colour.{canTake}
 use Rattle.rules.proofs.Tests.{below?}
-use Rattle.filling.specs.Filling.{Line, trails, gap, AgreesTo}
+use Rattle.filling.specs.Filling.{Line, trails, gapAfter, AgreesTo}
 use Rattle.filling.specs.Steps.{shade, stopOf, CanShow, Lies, LegalLine, EndsBlank, EndsBlock}
 use Rattle.filling.proofs.Ints.{sub-is, is-sub}
 use Rattle.filling.proofs.Fillings.{Piece}
@@ -48,7 +48,7 @@ module _ {L : Line} {at b : ℕ} {t : Bool} {room : ℕ} {z : ℤ} (F : Found L 
   where-is : {f : ℕ → ℕ} (E : EndsBlock L at b f) → E .start + room ≡ at + 1
   where-is E =
       let e : E .prior ≡ b - 1 = omega (arith, E .is) in
-      let g : gap L (E .prior) ≡ cond t 1 0 = rw (F .trail, e) in
+      let g : gapAfter L (E .prior) ≡ cond t 1 0 = rw (F .trail, e) in
       let d : L .size (E .prior) ≡ size = rw e in
       omega (arith, E .block .ends)
 
@@ -91,7 +91,7 @@ module _ {L : Line} {at b : ℕ} {t : Bool} {room : ℕ} {z : ℤ} (F : Found L 
         before = W .shows;
         block = record {
           within = omega arith;
-          ends = let g : gap L (b - 1) ≡ cond t 1 0 = rw (F .trail) in omega (arith, fills);
+          ends = let g : gapAfter L (b - 1) ≡ cond t 1 0 = rw (F .trail) in omega (arith, fills);
           inside = λ i u v. w i u (omega (arith, fills)) ∙ rw (stop s fills, lt-ltb i (s + size) v);
           after = λ i u v. w i (omega arith) v ∙ rw (stop s fills, le-ltb i (s + size) u);
         };

@@ -33,13 +33,13 @@ abbrev pub trails : Line → ℕ → Bool
 trails L b = eqb (L .colour (b + 1)) (L .colour b)
 
 -- the blanks that block b has to have after it: one before a block of its own colour, else none
-abbrev pub gap : Line → ℕ → ℕ
-gap L b = cond (trails L b) 1 0
+abbrev pub gapAfter : Line → ℕ → ℕ
+gapAfter L b = cond (trails L b) 1 0
 
 -- the cells that the first b blocks take with their gaps, packed to the left
 abbrev pub taken : Line → ℕ → ℕ
 taken L zero = 0
-taken L (suc b) = taken L b + L .size b + gap L b
+taken L (suc b) = taken L b + L .size b + gapAfter L b
 
 -- the least space of the first b blocks: the gap after the last is not counted
 abbrev pub space : Line → ℕ → ℕ
@@ -49,7 +49,7 @@ space L (suc b) = taken L b + L .size b
 -- f shows block b from cell p up to, not including, cell q: its cells, then its gap's blank
 pub record BlockAt (L : Line) (f : ℕ → ℕ) (b p q : ℕ) : Type 0 where
   pub within : b < L .count
-  pub ends : q ≡ p + L .size b + gap L b
+  pub ends : q ≡ p + L .size b + gapAfter L b
   pub inside : (i : ℕ) → p ≤ i → i < p + L .size b → f i ≡ L .colour b
   pub after : (i : ℕ) → p + L .size b ≤ i → i < q → f i ≡ 1
 

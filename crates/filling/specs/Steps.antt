@@ -8,6 +8,7 @@ use lib.Dec.{T, ltb, eqb}
 use lib.IntN.{ℤ, pos, negsuc}
 use lib.ListN.{length, getD}
 use Rattle.rules.specs.Colour.{Has, Subset, canTake}
+use Rattle.rules.specs.Refusal.{memoSize}
 use Rattle.filling.specs.Filling.{Line, Shows, BlockAt, AgreesTo, Fits, Solution, space}
 
 -- r says whether P
@@ -73,7 +74,7 @@ entryOf at b = b * 64 + at
 
 -- the memo tells the truth, and each colour of `out` is some solution's
 pub record Good (L : Line) (memo out : List ℕ) : Type 0 where
-  pub room : 4160 ≤ length memo
+  pub room : memoSize ≤ length memo
   pub long : 64 ≤ length out
   pub known : (at b : ℕ) → at < L .length → b ≤ L .count → (getD memo (entryOf at b) 0 ≡ 0 → ⊥)
       → Answer (Fits L (at + 1) b) (at + 1) (eqb (getD memo (entryOf at b) 0) 2) out

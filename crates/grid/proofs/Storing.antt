@@ -32,14 +32,14 @@ len-most g (Column x) = g .high-most
 
 module _ (w h : ℕ) (l : LinePosition) (m b₀ r₀ : List ℕ) (n₀ : ℕ) where
   -- the indexes from j on that will change
-  abbrev pub left : ℕ → List ℕ
-  left j = changed j (drop j (lineOf w h b₀ l)) (drop j m)
+  abbrev pub toStore : ℕ → List ℕ
+  toStore j = changed j (drop j (lineOf w h b₀ l)) (drop j m)
 
   pub record Storing (b report : List ℕ) (n j : ℕ) : Type 0 where
     pub upto : j ≤ length m
     pub size : length b ≡ length b₀
     pub board : put (place w l) j (drop j m) b ≡ store w l m b₀
-    pub reports : Going r₀ n₀ (news w h l m b₀) report n (map (place w l) (left j))
+    pub reports : Going r₀ n₀ (news w h l m b₀) report n (map (place w l) (toStore j))
     pub fresh : (i : ℕ) → j ≤ i → i < len w h l → getD b (place w l i) 0 ≡ getD b₀ (place w l i) 0
 
   pub store-start : Storing b₀ r₀ n₀ 0
@@ -54,13 +54,13 @@ module _ (w h : ℕ) (l : LinePosition) (m b₀ r₀ : List ℕ) (n₀ : ℕ) wh
       pub in-line : On w 64 l × (j < 64)
       in-line = (on-most (s .grid) l (s .on), omega (arith, inside, len-most (s .grid) l))
 
-      pub cell-in : place w l j < length b
-      cell-in = omega (arith, place-lt w h l j (s .on) inside, v .size, s .grid .size)
+      pub place-in : place w l j < length b
+      place-in = omega (arith, place-lt w h l j (s .on) inside, v .size, s .grid .size)
 
       pub cell-small : place w l j < 4096
-      cell-small = omega (arith, cell-in, v .size, s .grid .size, mul-le-mul (s .grid .wide-most) (s .grid .high-most))
+      cell-small = omega (arith, place-in, v .size, s .grid .size, mul-le-mul (s .grid .wide-most) (s .grid .high-most))
 
-      left-cons : left j ≡ cond (eqb (getD b (place w l j) 0) (getD m j 0)) (left (suc j)) (j ∷ left (suc j))
+      left-cons : toStore j ≡ cond (eqb (getD b (place w l j) 0) (getD m j 0)) (toStore (suc j)) (j ∷ toStore (suc j))
       left-cons =
           let e : getD (lineOf w h b₀ l) j 0 ≡ getD b (place w l j) 0 = getD-line w h b₀ l j inside ∙ sym (v .fresh j (omega arith) inside) in
           rw (drop-cons (lineOf w h b₀ l) j 0 (omega (arith, length-line w h b₀ l, inside)), drop-cons m j 0 p, e)
@@ -70,7 +70,7 @@ module _ (w h : ℕ) (l : LinePosition) (m b₀ r₀ : List ℕ) (n₀ : ℕ) wh
 
       pub store-same : getD b (place w l j) 0 ≡ getD m j 0 → Storing b report n (j + 1)
       store-same e =
-          let k : left j ≡ left (j + 1) = left-cons ∙ rw (eq-eqb (getD b (place w l j) 0) (getD m j 0) e, add-one j) in
+          let k : toStore j ≡ toStore (j + 1) = left-cons ∙ rw (eq-eqb (getD b (place w l j) 0) (getD m j 0) e, add-one j) in
           record {
             upto = omega arith;
             size = v .size;
@@ -81,7 +81,7 @@ module _ (w h : ℕ) (l : LinePosition) (m b₀ r₀ : List ℕ) (n₀ : ℕ) wh
             fresh = λ i q r. v .fresh i (omega arith) r;
           }
 
-      more : getD b (place w l j) 0 ≢ getD m j 0 → left j ≡ j ∷ left (j + 1)
+      more : getD b (place w l j) 0 ≢ getD m j 0 → toStore j ≡ j ∷ toStore (j + 1)
       more d = left-cons ∙ rw (ne-eqb (getD b (place w l j) 0) (getD m j 0) d, add-one j)
 
       pub room-for : getD b (place w l j) 0 ≢ getD m j 0 → n < length report
@@ -93,7 +93,7 @@ module _ (w h : ℕ) (l : LinePosition) (m b₀ r₀ : List ℕ) (n₀ : ℕ) wh
             s .room,
             ap length (more d),
             length-map (changes w h l m b₀) (place w l),
-            length-map (left j) (place w l),
+            length-map (toStore j) (place w l),
           )
 
       pub store-change : getD b (place w l j) 0 ≢ getD m j 0

@@ -17,7 +17,7 @@ use Rattle.rules.proofs.Placements.{placement-proper}
 use Rattle.rules.proofs.Binaries.{line-right, line-only, binary-white, binary-black}
 use Rattle.rules.proofs.Blocks.{test-legal}
 use Rattle.rules.proofs.Replies.{by-checking}
-use Rattle.line.specs.Calls.{numberOf, output, lineRules, binaryRules, SolvesLine, SolvesBinaryLine}
+use Rattle.line.specs.Calls.{numberOf, output, lineRules, binaryLineRules, SolvesLine, SolvesBinaryLine}
 use Rattle.line.proofs.Told.{binary-ready}
 
 -- what the numbers 8 and 0 say of rules and answer
@@ -70,16 +70,16 @@ module _ (cells sizes : List ℕ) where
   module _ {memo out m x : List ℕ} where
     pub binary-eight : SolvesBinaryLine cells sizes memo out 8 m x → Refused P sets
     binary-eight s =
-        let e = told-eight (verdict (binaryRules cells sizes (length memo) (length out))) (readBack (lineAnswer (map black sizes) sets)) (s .tells) in
+        let e = told-eight (verdict (binaryLineRules cells sizes (length memo) (length out))) (readBack (lineAnswer (map black sizes) sets)) (s .tells) in
         subst (Answers P sets) (no-answer (lineAnswer (map black sizes) sets) e) (line-right (map black sizes) (length sets) sets)
 
-    pub binary-refused : (n : ℕ) → verdict (binaryRules cells sizes (length memo) (length out)) ≡ Fine → Refused P sets
+    pub binary-refused : (n : ℕ) → verdict (binaryLineRules cells sizes (length memo) (length out)) ≡ Fine → Refused P sets
         → SolvesBinaryLine cells sizes memo out n m x → n ≡ 8
     binary-refused n e r s = s .tells ∙ rw (e, line-only (map black sizes) sets none r)
 
     solved-sets : SolvesBinaryLine cells sizes memo out 0 m x → (u : List ℕ) × (Exact P sets u × (x ≡ map cellOf u))
     solved-sets s =
-        let t = told-zero (verdict (binaryRules cells sizes (length memo) (length out))) (readBack (lineAnswer (map black sizes) sets)) out
+        let t = told-zero (verdict (binaryLineRules cells sizes (length memo) (length out))) (readBack (lineAnswer (map black sizes) sets)) out
         (s .tells) in
         let r = read-back (lineAnswer (map black sizes) sets) x (t .1 ∙ ap (λ l. some l) (sym (s .leaves))) in
         (r .0, (subst (Answers P sets) (r .1 .0) (line-right (map black sizes) (length sets) sets), r .1 .1))
@@ -87,7 +87,7 @@ module _ (cells sizes : List ℕ) where
     module _ (s : SolvesBinaryLine cells sizes memo out 0 m x) (i : ℕ) (h : i < length cells) where
       proper : (p : List ℕ) → P p → Proper p
       proper p l =
-          let t = told-zero (verdict (binaryRules cells sizes (length memo) (length out))) (readBack (lineAnswer (map black sizes) sets)) out
+          let t = told-zero (verdict (binaryLineRules cells sizes (length memo) (length out))) (readBack (lineAnswer (map black sizes) sets)) out
           (s .tells) in
           placement-proper (test-legal (map black sizes) (binary-ready cells sizes memo out (t .0) .legal)) p l
 

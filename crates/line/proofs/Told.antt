@@ -11,43 +11,43 @@ use lib.ListN.{length, take, replicate, length-replicate, length-map}
 use lib.Seq.{sets, length-sets}
 use Rattle.rules.specs.Block.{Lent, black, blocks, coloured, binary}
 use Rattle.rules.specs.Binary.{setOf, lineAnswer, readBack, binaryAnswer}
-use Rattle.rules.specs.Refusal.{refusalNumber, Rule, verdict, lengthRules, blockRules, cellRules}
+use Rattle.rules.specs.Refusal.{refusalNumber, Rule, verdict, lengthRules, blockRules, cellRules, memoSize}
 use Rattle.rules.specs.declared.Refusal.{Refusal}
 use Rattle.rules.specs.declared.Verdict.the-variants.{Fine, Bad}
 use Rattle.rules.proofs.Tests.{both-true, true-not-false}
 use Rattle.rules.proofs.Blocks.{length-blocks, black-blocks, black-lent}
 use Rattle.rules.proofs.Verdicts.{bad-not-fine, append-parts, length-fine, blocks-fine}
 use Rattle.loops.proofs.Stores.{take-sets}
-use Rattle.line.specs.Calls.{roomFor, lineRules, binaryRules, Solves}
+use Rattle.line.specs.Calls.{roomFor, lineRules, binaryLineRules, Solves}
 use Rattle.solver.specs.Steps.{Solvable, Tried, outcome}
-use Rattle.line.specs.Steps.{Ready, Works}
+use Rattle.line.specs.Steps.{JudgedLine, Works}
 
 -- ---- what a line that keeps the rules is
 
 module _ (cells : List ℕ) (b : Lent) (memo out : List ℕ) where
   rules-ready : verdict (lengthRules (length cells)) ≡ Fine → verdict (blockRules b (roomFor (length cells) (length memo) (length out))) ≡ Fine
-      → Ready cells b memo out
+      → JudgedLine cells b memo out
   rules-ready d e =
       let l = length-fine (length cells) d in
       let k = blocks-fine b (roomFor (length cells) (length memo) (length out)) e in
-      let r = both-true (eqb (length out) (length cells)) (leb 4160 (length memo)) (k .counted .room) in
+      let r = both-true (eqb (length out) (length cells)) (leb memoSize (length memo)) (k .counted .room) in
       record {
         some = l .0;
         short = l .1;
         paired = k .counted .one-length;
         few = k .counted .few;
         legal = k .legal;
-        room = leb-true 4160 (length memo) (r .1);
+        room = leb-true memoSize (length memo) (r .1);
         exact = eqb-true (length out) (length cells) (r .0);
       }
 
-  pub line-ready : verdict (lineRules (length cells) b (length memo) (length out)) ≡ Fine → Ready cells b memo out
+  pub line-ready : verdict (lineRules (length cells) b (length memo) (length out)) ≡ Fine → JudgedLine cells b memo out
   line-ready e =
       let p = append-parts (lengthRules (length cells)) (blockRules b (roomFor (length cells) (length memo) (length out))) e in
       rules-ready (p .0) (p .1)
 
-pub binary-ready : (cells sizes memo out : List ℕ) → verdict (binaryRules cells sizes (length memo) (length out)) ≡ Fine
-    → Ready cells (binary sizes) memo out
+pub binary-ready : (cells sizes memo out : List ℕ) → verdict (binaryLineRules cells sizes (length memo) (length out)) ≡ Fine
+    → JudgedLine cells (binary sizes) memo out
 binary-ready cells sizes memo out e =
     let room = roomFor (length cells) (length memo) (length out) in
     let p = append-parts (lengthRules (length cells)) (blockRules (binary sizes) room ++ cellRules cells) e in
@@ -56,7 +56,7 @@ binary-ready cells sizes memo out e =
 
 -- ---- a line of sets, of n cells, that were written to an empty array
 
-module _ (cells sizes colours : List ℕ) {memo out xs : List ℕ} (R : Ready cells (coloured sizes colours) memo out) {n : ℕ} (ne : n ≡ length cells)
+module _ (cells sizes colours : List ℕ) {memo out xs : List ℕ} (R : JudgedLine cells (coloured sizes colours) memo out) {n : ℕ} (ne : n ≡ length cells)
     (e : xs ≡ sets (replicate 260 0) 0 cells) where
   paired : length sizes ≡ length colours
   paired = eqb-true (length sizes) (length colours) (R .paired)
@@ -88,15 +88,15 @@ module _ (cells sizes colours : List ℕ) {memo out xs : List ℕ} (R : Ready ce
 
 -- ---- a binary line is such a line: of its cells' sets, with black blocks
 
-abbrev pub blacks : List ℕ → List ℕ
-blacks sizes = take (length sizes) (replicate 64 2)
+abbrev pub blackPart : List ℕ → List ℕ
+blackPart sizes = take (length sizes) (replicate 64 2)
 
-module _ (cells sizes : List ℕ) {memo out : List ℕ} (R : Ready cells (binary sizes) memo out) where
+module _ (cells sizes : List ℕ) {memo out : List ℕ} (R : JudgedLine cells (binary sizes) memo out) where
   pub few-black : length sizes ≤ 64
   few-black = omega (arith, R .few, length-map sizes black)
 
-  pub sets-ready : Ready (map setOf cells) (coloured sizes (blacks sizes)) memo out
-  sets-ready = subst (λ (b : Lent). Ready (map setOf cells) b memo out) (sym (black-lent sizes few-black)) (record {
+  pub sets-ready : JudgedLine (map setOf cells) (coloured sizes (blackPart sizes)) memo out
+  sets-ready = subst (λ (b : Lent). JudgedLine (map setOf cells) b memo out) (sym (black-lent sizes few-black)) (record {
     some = omega (arith, R .some, length-map cells setOf);
     short = omega (arith, R .short, length-map cells setOf);
     paired = R .paired;
@@ -106,7 +106,7 @@ module _ (cells sizes : List ℕ) {memo out : List ℕ} (R : Ready cells (binary
     exact = R .exact ∙ sym (length-map cells setOf);
   })
 
-  pub binary-told : {o : Option (List ℕ)} → lineAnswer (blocks sizes (blacks sizes)) (map setOf cells) ≡ o → binaryAnswer sizes cells ≡ readBack o
+  pub binary-told : {o : Option (List ℕ)} → lineAnswer (blocks sizes (blackPart sizes)) (map setOf cells) ≡ o → binaryAnswer sizes cells ≡ readBack o
   binary-told t = ap (λ bs. readBack (lineAnswer bs (map setOf cells))) (sym (black-blocks sizes 64 few-black)) ∙ ap readBack t
 
 -- ---- what the calls tell

@@ -10,11 +10,11 @@ use Rattle.rules.specs.Refusal.{Rule, verdict}
 use Rattle.rules.specs.declared.Refusal.{Refusal}
 use Rattle.rules.specs.declared.Verdict.the-variants.{Bad}
 use Rattle.rules.proofs.Replies.{same, number-one, by-checking}
-use Rattle.line.specs.Calls.{answerNumber, lineRules, binaryRules, Solves, SolvesLine, SolvesBinaryLine}
+use Rattle.line.specs.Calls.{lineAnswerNumber, lineRules, binaryLineRules, Solves, SolvesLine, SolvesBinaryLine}
 use Rattle.line.specs.declared.LineAnswer.{LineAnswer}
 use Rattle.line.specs.declared.LineAnswer.the-variants.{Done, Unsolvable, Refused}
 
-answer-one : (r s : LineAnswer) → answerNumber r ≡ answerNumber s → r ≡ s
+answer-one : (r s : LineAnswer) → lineAnswerNumber r ≡ lineAnswerNumber s → r ≡ s
 answer-one Done Done e = refl
 answer-one Done Unsolvable e = absurd (omega arith)
 answer-one Done (Refused w) e = absurd (by-checking w .0 (sym e))
@@ -39,21 +39,21 @@ one-number p q = let k = alike p q in (k .0, k .1, λ w e. same (p .kept w e) (q
 -- ---- the calls
 
 pub solve-line : (cells : List ℕ) (b : Lent) {memo out m n x y : List ℕ} (r s : LineAnswer)
-    → SolvesLine cells b memo out (answerNumber r) m x → SolvesLine cells b memo out (answerNumber s) n y
+    → SolvesLine cells b memo out (lineAnswerNumber r) m x → SolvesLine cells b memo out (lineAnswerNumber s) n y
     → (r ≡ s) × (x ≡ y) × ((w : Refusal) → verdict (lineRules (length cells) b (length memo) (length out)) ≡ Bad w → m ≡ n)
 solve-line cells b r s p q = let k = one-number p q in (answer-one r s (k .0), k .1, k .2)
 
 pub solve-binary-line : (cells sizes : List ℕ) {memo out m n x y : List ℕ} (r s : LineAnswer)
-    → SolvesBinaryLine cells sizes memo out (answerNumber r) m x → SolvesBinaryLine cells sizes memo out (answerNumber s) n y
-    → (r ≡ s) × (x ≡ y) × ((w : Refusal) → verdict (binaryRules cells sizes (length memo) (length out)) ≡ Bad w → m ≡ n)
+    → SolvesBinaryLine cells sizes memo out (lineAnswerNumber r) m x → SolvesBinaryLine cells sizes memo out (lineAnswerNumber s) n y
+    → (r ≡ s) × (x ≡ y) × ((w : Refusal) → verdict (binaryLineRules cells sizes (length memo) (length out)) ≡ Bad w → m ≡ n)
 solve-binary-line cells sizes r s p q = let k = one-number p q in (answer-one r s (k .0), k .1, k .2)
 
 -- ---- two calls that differ only in what the memo holds answer alike, and leave the same output
 
 pub line-memo-free : (cells : List ℕ) (b : Lent) (memo memo₂ : List ℕ) → length memo ≡ length memo₂ → {out m n x y : List ℕ} (r s : LineAnswer)
-    → SolvesLine cells b memo out (answerNumber r) m x → SolvesLine cells b memo₂ out (answerNumber s) n y → (r ≡ s) × (x ≡ y)
+    → SolvesLine cells b memo out (lineAnswerNumber r) m x → SolvesLine cells b memo₂ out (lineAnswerNumber s) n y → (r ≡ s) × (x ≡ y)
 line-memo-free cells b memo memo₂ e r s p q = let k = alike (rw e at p) q in (answer-one r s (k .0), k .1)
 
 pub binary-memo-free : (cells sizes memo memo₂ : List ℕ) → length memo ≡ length memo₂ → {out m n x y : List ℕ} (r s : LineAnswer)
-    → SolvesBinaryLine cells sizes memo out (answerNumber r) m x → SolvesBinaryLine cells sizes memo₂ out (answerNumber s) n y → (r ≡ s) × (x ≡ y)
+    → SolvesBinaryLine cells sizes memo out (lineAnswerNumber r) m x → SolvesBinaryLine cells sizes memo₂ out (lineAnswerNumber s) n y → (r ≡ s) × (x ≡ y)
 binary-memo-free cells sizes memo memo₂ e r s p q = let k = alike (rw e at p) q in (answer-one r s (k .0), k .1)

@@ -8,7 +8,7 @@ use lib.Dec.{eqb, leb}
 use lib.ListN.{length}
 use Rattle.rules.specs.Block.{Lent, binary}
 use Rattle.rules.specs.Binary.{lineAnswer, binaryAnswer}
-use Rattle.rules.specs.Refusal.{refusalNumber, Rule, verdict, lengthRules, blockRules, cellRules}
+use Rattle.rules.specs.Refusal.{refusalNumber, Rule, verdict, lengthRules, blockRules, cellRules, memoSize}
 use Rattle.rules.specs.declared.Refusal.{Refusal}
 use Rattle.rules.specs.declared.Verdict.{Verdict}
 use Rattle.rules.specs.declared.Verdict.the-variants.{Fine, Bad}
@@ -19,22 +19,22 @@ use Rattle.line.specs.declared.LineAnswer.the-variants.{Done, Unsolvable
 
 -- the output is as long as the line, and the memo has at least 65 × 64 bytes
 abbrev pub roomFor : ℕ → ℕ → ℕ → Bool
-roomFor n memo out = eqb out n && leb 4160 memo
+roomFor n memo out = eqb out n && leb memoSize memo
 
 -- the length, then the lists and the blocks
 abbrev pub lineRules : ℕ → Lent → ℕ → ℕ → List Rule
 lineRules n b memo out = lengthRules n ++ blockRules b (roomFor n memo out)
 
-abbrev pub binaryRules : List ℕ → List ℕ → ℕ → ℕ → List Rule
-binaryRules cells sizes memo out = lengthRules (length cells) ++ blockRules (binary sizes) (roomFor (length cells) memo out) ++ cellRules cells
+abbrev pub binaryLineRules : List ℕ → List ℕ → ℕ → ℕ → List Rule
+binaryLineRules cells sizes memo out = lengthRules (length cells) ++ blockRules (binary sizes) (roomFor (length cells) memo out) ++ cellRules cells
 
 -- ---- answers
 
 -- document 01's number of each answer
-abbrev pub answerNumber : LineAnswer → ℕ
-answerNumber Done = 0
-answerNumber Unsolvable = 8
-answerNumber (Refused w) = refusalNumber w
+abbrev pub lineAnswerNumber : LineAnswer → ℕ
+lineAnswerNumber Done = 0
+lineAnswerNumber Unsolvable = 8
+lineAnswerNumber (Refused w) = refusalNumber w
 
 -- the number that the rules and the line's answer give: 8 exactly if no rule is broken and no placement agrees
 abbrev pub numberOf : Verdict → Option (List ℕ) → ℕ
@@ -61,4 +61,4 @@ SolvesLine cells b memo out = Solves (lineRules (length cells) b (length memo) (
 
 -- a binary cell is 1 or 2 if they all say so, else 0
 abbrev pub SolvesBinaryLine : List ℕ → List ℕ → List ℕ → List ℕ → ℕ → List ℕ → List ℕ → Type 0
-SolvesBinaryLine cells sizes memo out = Solves (binaryRules cells sizes (length memo) (length out)) (binaryAnswer sizes cells) memo out
+SolvesBinaryLine cells sizes memo out = Solves (binaryLineRules cells sizes (length memo) (length out)) (binaryAnswer sizes cells) memo out

@@ -6,16 +6,17 @@ use mathlib.Core.Option.{Option}
 use Prim.Native.Nat.{ℕ, _≤_}
 use lib.ListN.{length}
 use Rattle.rules.specs.Block.{Lent, illegal}
+use Rattle.rules.specs.Refusal.{memoSize}
 use Rattle.solver.specs.Steps.{outcome}
 
 -- what a caller who has judged the line knows of it
-pub record Ready (cells : List ℕ) (b : Lent) (memo out : List ℕ) : Type 0 where
+pub record JudgedLine (cells : List ℕ) (b : Lent) (memo out : List ℕ) : Type 0 where
   pub some : 1 ≤ length cells
   pub short : length cells ≤ 64
   pub paired : b .paired ≡ true
   pub few : length (b .list) ≤ 64
   pub legal : illegal (b .list) ≡ false
-  pub room : 4160 ≤ length memo
+  pub room : memoSize ≤ length memo
   pub exact : length out ≡ length cells
 
 -- r and the output tell the line's answer; the output is as it stood where there is none

@@ -10,8 +10,8 @@ ghost use lib.ListN.{length, take};
 ghost use lib.Seq.{sets};
 ghost use Rattle.rules.specs.Block.{binary};
 ghost use Rattle.rules.specs.Binary.{setOf, cellOf, binaryAnswer};
-ghost use Rattle.line.specs.Calls.{answerNumber, SolvesBinaryLine};
-ghost use Rattle.line.specs.Steps.{Ready, Works};
+ghost use Rattle.line.specs.Calls.{lineAnswerNumber, SolvesBinaryLine};
+ghost use Rattle.line.specs.Steps.{JudgedLine, Works};
 
 // The set of a binary cell: undefined can be blank or black.
 pub fn set_of(cell: u32) -> u32
@@ -53,7 +53,7 @@ fn write_cells(work: &[u32; 64], out: &mut [u32])
 
 // Solves a line that keeps the rules: for a caller who has judged it.
 pub fn solve_legal(cells: &[u32], sizes: &[u32], memo: &mut [u8], out: &mut [u32]) -> bool
-    requires { ⌜ Ready (now cells) (binary (now sizes)) (now memo) (now out) ⌝ }
+    requires { ⌜ JudgedLine (now cells) (binary (now sizes)) (now memo) (now out) ⌝ }
     ensures { λ r. ⌜ Works (binaryAnswer (now (sizes .entry)) (now (cells .entry))) (now (out .entry)) r (now (out .exit)) ⌝ }
 {
     let mut line = [0u32; 260];
@@ -76,7 +76,7 @@ pub fn solve_legal(cells: &[u32], sizes: &[u32], memo: &mut [u8], out: &mut [u32
 
 // Solves a line: a cell of the output is 1 or 2 where all agreeing placements say so, else 0.
 pub fn solve(cells: &[u32], sizes: &[u32], memo: &mut [u8], out: &mut [u32]) -> LineAnswer
-    ensures { λ r. ⌜ SolvesBinaryLine (now (cells .entry)) (now (sizes .entry)) (now (memo .entry)) (now (out .entry)) (answerNumber r) (now (memo .exit)) (now (out .exit)) ⌝ }
+    ensures { λ r. ⌜ SolvesBinaryLine (now (cells .entry)) (now (sizes .entry)) (now (memo .entry)) (now (out .entry)) (lineAnswerNumber r) (now (memo .exit)) (now (out .exit)) ⌝ }
 {
     let v = judge_binary_line(cells, sizes, memo.len(), out.len());
     match v {

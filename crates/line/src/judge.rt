@@ -9,7 +9,7 @@ ghost use mathlib.Core.Path.{_≡_};
 ghost use mathlib.Core.List.{_++_};
 ghost use Rattle.rules.specs.Block.{coloured, binary};
 ghost use Rattle.rules.specs.Refusal.{verdict, blockRules, cellRules};
-ghost use Rattle.line.specs.Calls.{roomFor, lineRules, binaryRules};
+ghost use Rattle.line.specs.Calls.{roomFor, lineRules, binaryLineRules};
 
 // An output as long as the line, and 65 × 64 bytes of memo.
 fn has_room(length: usize, memo: usize, out: usize) -> bool
@@ -56,7 +56,7 @@ fn judge_binary_cells(cells: &[u32], sizes: &[u32], roomy: bool) -> Verdict
 
 // Rules 1 to 5.
 pub(crate) fn judge_binary_line(cells: &[u32], sizes: &[u32], memo: usize, out: usize) -> Verdict
-    ensures { λ r. ⌜ r ≡ verdict (binaryRules (now (cells .entry)) (now (sizes .entry)) memo out) ⌝ }
+    ensures { λ r. ⌜ r ≡ verdict (binaryLineRules (now (cells .entry)) (now (sizes .entry)) memo out) ⌝ }
 {
     let v = judge_length(cells.len());
     match v {

@@ -7,7 +7,7 @@ pub mod multicolor;
 use rules::Refusal;
 use rules::refusal_number;
 ghost use mathlib.Core.Path.{_≡_};
-ghost use Rattle.line.specs.Calls.{answerNumber};
+ghost use Rattle.line.specs.Calls.{lineAnswerNumber};
 
 // The answer of a call that solves a line: 0, 8, or a refusal by checking.
 pub enum LineAnswer {
@@ -18,7 +18,7 @@ pub enum LineAnswer {
 
 // Document 01's number of an answer.
 pub fn answer_number(answer: LineAnswer) -> u32
-    ensures { λ r. ⌜ r ≡ answerNumber answer ⌝ }
+    ensures { λ r. ⌜ r ≡ lineAnswerNumber answer ⌝ }
 {
     match answer {
         LineAnswer::Done => 0,

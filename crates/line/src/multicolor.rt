@@ -9,8 +9,8 @@ ghost use Prim.Native.Nat.{_≤_};
 ghost use lib.ListN.{length, take};
 ghost use Rattle.rules.specs.Block.{blocks, coloured};
 ghost use Rattle.rules.specs.Binary.{lineAnswer};
-ghost use Rattle.line.specs.Calls.{answerNumber, SolvesLine};
-ghost use Rattle.line.specs.Steps.{Ready, Works};
+ghost use Rattle.line.specs.Calls.{lineAnswerNumber, SolvesLine};
+ghost use Rattle.line.specs.Steps.{JudgedLine, Works};
 
 // Copies the first numbers to the output.
 fn copy_out(work: &[u32; 64], out: &mut [u32])
@@ -32,7 +32,7 @@ pub fn solve_legal(
     memo: &mut [u8],
     out: &mut [u32],
 ) -> bool
-    requires { ⌜ Ready (now cells) (coloured (now sizes) (now colours)) (now memo) (now out) ⌝ }
+    requires { ⌜ JudgedLine (now cells) (coloured (now sizes) (now colours)) (now memo) (now out) ⌝ }
     ensures { λ r. ⌜ Works (lineAnswer (blocks (now (sizes .entry)) (now (colours .entry))) (now (cells .entry))) (now (out .entry)) r (now (out .exit)) ⌝ }
 {
     let mut line = [0u32; 260];
@@ -53,7 +53,7 @@ pub fn solve(
     memo: &mut [u8],
     out: &mut [u32],
 ) -> LineAnswer
-    ensures { λ r. ⌜ SolvesLine (now (cells .entry)) (coloured (now (sizes .entry)) (now (colours .entry))) (now (memo .entry)) (now (out .entry)) (answerNumber r) (now (memo .exit)) (now (out .exit)) ⌝ }
+    ensures { λ r. ⌜ SolvesLine (now (cells .entry)) (coloured (now (sizes .entry)) (now (colours .entry))) (now (memo .entry)) (now (out .entry)) (lineAnswerNumber r) (now (memo .exit)) (now (out .exit)) ⌝ }
 {
     let v = judge_line(cells.len(), sizes, colours, memo.len(), out.len());
     match v {

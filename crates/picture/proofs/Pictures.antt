@@ -10,12 +10,12 @@ use mathlib.Core.List.{List, [], _∷_, _++_, map}
 use mathlib.Core.Path.{_≡_, refl, sym, ap, _∙_, subst}
 use native.Mathlib.Nat.{add-zero}
 use native.Mathlib.Omega.{arith}
-use Rattle.picture.specs.Calls.{gridFits, cluesReply, binaryRules, colouredRules, BinaryClues, ColouredClues}
+use Rattle.picture.specs.Calls.{gridFits, cluesReply, binaryCluesRules, colouredCluesRules, BinaryClues, ColouredClues}
 use Rattle.rules.specs.Colour.{Colour}
 use Rattle.rules.proofs.Blocks.{blocks-back}
 use Rattle.rules.proofs.Boards.{place-lt, length-line, getD-line}
 use Rattle.rules.proofs.Codes.{any-at, any-all, mixed-different, different-mixed}
-use Rattle.rules.proofs.Readings.{getD-map-lt, map-line, read-colour, read-placement, clue-legal, black-placement, black-colour, black-legal}
+use Rattle.rules.proofs.Readings.{getD-map-lt, map-line, read-colour, read-placement, codes-legal, black-placement, black-colour, black-legal}
 use Rattle.rules.specs.Block.{Block, black, sizesOf, coloursOf, Legal, illegalColour}
 use Rattle.rules.specs.Board.{row, column, len, On, place, lineOf, Picture}
 use Rattle.rules.specs.Card.{Card, sum, part, clueOf, Straight, linesFrom, rowClues, columnClues, gathered, countOf}
@@ -158,9 +158,9 @@ module _ {e w h m n : ℕ} {b rc rs rt cc cs ct rc′ rs′ rt′ cc′ cs′ ct
   abbrev fits : Bool
   fits = gridFits w h (length b) (length rc) (length rs) (length cc) (length cs) && (leb (w * h) (length rt) && leb (w * h) (length ct))
 
-  fine : (verdict (colouredRules e w h b rc rs rt cc cs ct) ≡ Fine) × (m ≡ length (gathered sizesOf rows)) × (n ≡ length (gathered sizesOf columns))
+  fine : (verdict (colouredCluesRules e w h b rc rs rt cc cs ct) ≡ Fine) × (m ≡ length (gathered sizesOf rows)) × (n ≡ length (gathered sizesOf columns))
   fine =
-      done-fine (verdict (colouredRules e w h b rc rs rt cc cs ct)) (length (gathered sizesOf rows)) (length (gathered sizesOf columns)) m n
+      done-fine (verdict (colouredCluesRules e w h b rc rs rt cc cs ct)) (length (gathered sizesOf rows)) (length (gathered sizesOf columns)) m n
       (c .lists .answers)
 
   good : badCode e b ≡ false
@@ -202,7 +202,7 @@ module _ {e w h m n : ℕ} {b rc rs rt cc cs ct rc′ rs′ rt′ cc′ cs′ ct
       (λ l o. rw (clues-back l o) (read-placement e (lineOf w h b l) (line-good l o)))
 
   pub clues-legal : (l : LinePosition) → On w h l → Legal (clueOf (cardIn w h m n rc′ rs′ rt′ cc′ cs′ ct′) l)
-  clues-legal l o = subst (λ (bs : List Block). Legal bs) (sym (clues-back l o)) (clue-legal e (lineOf w h b l) (line-good l o))
+  clues-legal l o = subst (λ (bs : List Block). Legal bs) (sym (clues-back l o)) (codes-legal e (lineOf w h b l) (line-good l o))
 
 -- ---- the same for binary clues: every code but the blank one is black
 
@@ -211,10 +211,10 @@ blacksIn w h rows columns rc rs cc cs (Row y) = map black (part (take h rc) (y .
 blacksIn w h rows columns rc rs cc cs (Column x) = map black (part (take w cc) (x .0) (take columns cs))
 
 module _ (e w h m n : ℕ) (b : List ℕ) {rc rs cc cs rc′ rs′ cc′ cs′ : List ℕ} (c : BinaryClues e w h b rc rs cc cs (Clues.Done m n) rc′ rs′ cc′ cs′) where
-  binary-fine : (verdict (binaryRules e w h b rc rs cc cs) ≡ Fine) × (m ≡ length (gathered sizesOf (rowClues e w h b))) ×
+  binary-fine : (verdict (binaryCluesRules e w h b rc rs cc cs) ≡ Fine) × (m ≡ length (gathered sizesOf (rowClues e w h b))) ×
       (n ≡ length (gathered sizesOf (columnClues e w h b)))
   binary-fine =
-      done-fine (verdict (binaryRules e w h b rc rs cc cs)) (length (gathered sizesOf (rowClues e w h b)))
+      done-fine (verdict (binaryCluesRules e w h b rc rs cc cs)) (length (gathered sizesOf (rowClues e w h b)))
       (length (gathered sizesOf (columnClues e w h b))) m n (c .answers)
 
   unmixed : mixedCode e b ≡ false

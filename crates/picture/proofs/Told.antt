@@ -1,5 +1,5 @@
 -- The statements of the public calls, from what their parts tell.
-use Rattle.picture.specs.Calls.{binaryRules, colouredRules, gridFits, gridRules, GridLists, GridColours}
+use Rattle.picture.specs.Calls.{binaryCluesRules, colouredCluesRules, gridFits, gridRules, GridLists, GridColours}
 use Rattle.clue.specs.Calls.{codeRules}
 use Rattle.rules.specs.Clue.{badCode, mixedCode, clue}
 use Prim.Native.Nat.{_≤_, ℕ, zero, suc, _*_}
@@ -106,12 +106,12 @@ colours-room w h f a b e =
 
 -- what is known where no rule is broken
 module _ (e w h : ℕ) (b rc rs cc cs : List ℕ) where
-  pub binary-known : verdict (binaryRules e w h b rc rs cc cs) ≡ Fine → Grid w h b × GridRoom w h rc rs cc cs
+  pub binary-known : verdict (binaryCluesRules e w h b rc rs cc cs) ≡ Fine → Grid w h b × GridRoom w h rc rs cc cs
   binary-known v =
       let p = codes-fine (sideRules w h) (gridFits w h (length b) (length rc) (length rs) (length cc) (length cs)) (mixedCode e b) v in
       grid-known w h b rc rs cc cs (p .0) (p .1)
 
-  module _ (rt ct : List ℕ) (v : verdict (colouredRules e w h b rc rs rt cc cs ct) ≡ Fine) where
+  module _ (rt ct : List ℕ) (v : verdict (colouredCluesRules e w h b rc rs rt cc cs ct) ≡ Fine) where
     abbrev fits : Bool
     fits = gridFits w h (length b) (length rc) (length rs) (length cc) (length cs)
 

@@ -43,19 +43,19 @@ pub record GridColours (rules : List Rule) (rows columns : List (List Block)) (r
   pub column-colours : ct′ ≡ left (verdict rules) (gathered coloursOf columns) ct
 
 -- the rules of binary clues, and of coloured ones, whose lists of colours need room too
-abbrev pub binaryRules : ℕ → ℕ → ℕ → List ℕ → List ℕ → List ℕ → List ℕ → List ℕ → List Rule
-binaryRules e w h b rc rs cc cs = gridRules w h (gridFits w h (length b) (length rc) (length rs) (length cc) (length cs)) (mixedCode e b)
+abbrev pub binaryCluesRules : ℕ → ℕ → ℕ → List ℕ → List ℕ → List ℕ → List ℕ → List ℕ → List Rule
+binaryCluesRules e w h b rc rs cc cs = gridRules w h (gridFits w h (length b) (length rc) (length rs) (length cc) (length cs)) (mixedCode e b)
 
-abbrev pub colouredRules : ℕ → ℕ → ℕ → List ℕ → List ℕ → List ℕ → List ℕ → List ℕ → List ℕ → List ℕ → List Rule
-colouredRules e w h b rc rs rt cc cs ct =
+abbrev pub colouredCluesRules : ℕ → ℕ → ℕ → List ℕ → List ℕ → List ℕ → List ℕ → List ℕ → List ℕ → List ℕ → List Rule
+colouredCluesRules e w h b rc rs rt cc cs ct =
     gridRules w h
     (gridFits w h (length b) (length rc) (length rs) (length cc) (length cs) && (leb (w * h) (length rt) && leb (w * h) (length ct)))
     (badCode e b)
 
 -- the clues of a binary picture, and of a coloured one
 abbrev pub BinaryClues : ℕ → ℕ → ℕ → List ℕ → List ℕ → List ℕ → List ℕ → List ℕ → CluesAnswer → List ℕ → List ℕ → List ℕ → List ℕ → Type 0
-BinaryClues e w h b rc rs cc cs = GridLists (binaryRules e w h b rc rs cc cs) (rowClues e w h b) (columnClues e w h b) rc rs cc cs
+BinaryClues e w h b rc rs cc cs = GridLists (binaryCluesRules e w h b rc rs cc cs) (rowClues e w h b) (columnClues e w h b) rc rs cc cs
 
 pub record ColouredClues (e w h : ℕ) (b rc rs rt cc cs ct : List ℕ) (r : CluesAnswer) (rc′ rs′ rt′ cc′ cs′ ct′ : List ℕ) : Type 0 where
-  pub lists : GridLists (colouredRules e w h b rc rs rt cc cs ct) (rowClues e w h b) (columnClues e w h b) rc rs cc cs r rc′ rs′ cc′ cs′
-  pub colours : GridColours (colouredRules e w h b rc rs rt cc cs ct) (rowClues e w h b) (columnClues e w h b) rt ct rt′ ct′
+  pub lists : GridLists (colouredCluesRules e w h b rc rs rt cc cs ct) (rowClues e w h b) (columnClues e w h b) rc rs cc cs r rc′ rs′ cc′ cs′
+  pub colours : GridColours (colouredCluesRules e w h b rc rs rt cc cs ct) (rowClues e w h b) (columnClues e w h b) rt ct rt′ ct′

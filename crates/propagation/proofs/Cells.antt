@@ -15,26 +15,13 @@ use Rattle.rules.proofs.Readings.{getD-map-lt}
 
 -- ---- the room number
 
-pub room-step : (b : List ℕ) (i : ℕ) → i < length b → room (drop i b) ≡ (ones (getD b i 0) - 1) + room (drop (i + 1) b)
-room-step b i h = rw (add-one i, drop-cons b i 0 h)
+pub room-cell : (b : List ℕ) (i : ℕ) → i < length b → room (drop i b) ≡ (ones (getD b i 0) - 1) + room (drop (i + 1) b)
+room-cell b i h = rw (add-one i, drop-cons b i 0 h)
 
-cell-room : (c : ℕ) → c ≤ 2 → c ≢ 0 → ones (setOf c) - 1 ≡ 0
-unfolding ones
-cell-room zero h d = absurd (d refl)
-cell-room (suc zero) h d = refl
-cell-room (suc (suc zero)) h d = refl
-cell-room (suc (suc (suc n))) h d = absurd (omega arith)
-
-open-room : ones 3 - 1 ≡ 1
-unfolding ones
-open-room = refl
-
-module _ (g : List ℕ) (i : ℕ) (h : i < length g) where
-  pub room-open : getD g i 0 ≡ 0 → room (map setOf (drop i g)) ≡ 1 + room (map setOf (drop (i + 1) g))
-  room-open e = rw (add-one, drop-cons g i 0, e) (ap (λ (n : ℕ). n + room (map setOf (drop (suc i) g))) open-room)
-
-  pub room-known : getD g i 0 ≤ 2 → getD g i 0 ≢ 0 → room (map setOf (drop i g)) ≡ room (map setOf (drop (i + 1) g))
-  room-known k d = rw (add-one, drop-cons g i 0) (omega (arith, cell-room (getD g i 0) k d))
+-- the same of binary cells
+pub room-set : (b : List ℕ) (i : ℕ) → i < length b
+    → room (map setOf (drop i b)) ≡ (ones (setOf (getD b i 0)) - 1) + room (map setOf (drop (i + 1) b))
+room-set b i h = rw (add-one i, drop-cons b i 0 h)
 
 -- ---- a list mapped where it lies
 

@@ -11,7 +11,7 @@ use lib.ListN.{length, getD, take, length-map}
 use lib.Seq.{sets}
 use Rattle.rules.specs.Binary.{setOf, cellOf}
 use Rattle.rules.specs.Block.{blacks}
-use Rattle.rules.specs.Card.{Card, blackCard, sum}
+use Rattle.rules.specs.Card.{Card, blackCard, sum, cardOf}
 use Rattle.rules.specs.CardRules.{cardRules}
 use Rattle.rules.specs.Ranges.{anyOf}
 use Rattle.rules.specs.Refusal.{Rule, _when_, verdict, cellRules}
@@ -24,12 +24,12 @@ use Rattle.rules.proofs.Searching.{not-above}
 use Rattle.rules.proofs.Tests.{both-true}
 use Rattle.rules.proofs.Verdicts.{bad-not-fine, fine-cons, append-bad, append-fine, append-parts}
 use Rattle.loops.proofs.Going.{written-sets}
-use Rattle.card.specs.Steps.{cardOf, Direction}
+use Rattle.card.specs.Steps.{Direction}
 use Rattle.card.proofs.Counted.{card-known, card-right}
 use Rattle.run.specs.declared.Start.{Start}
 use Rattle.run.specs.declared.Start.the-variants.{Full, Point}
 use Rattle.run.specs.declared.RunAnswer.{RunAnswer}
-use Rattle.propagation.specs.Calls.{inGrid, endRules, runRules, binaryRules, Ran}
+use Rattle.propagation.specs.Calls.{inGrid, endRules, runRules, binaryRunRules, Ran}
 use Rattle.run.specs.Ends.{Reply, refusal, replyTo, endOf}
 use Rattle.run.specs.Steps.{InGrid, Ended, Judged}
 use Rattle.propagation.specs.Steps.{Blackened, EndedBinary}
@@ -54,14 +54,14 @@ module _ (w h : ℕ) (s : Start) (c : Card) (grid : List ℕ) (report memo stack
   abbrev lasts : List Rule
   lasts = endRules w h s report (room (map setOf grid))
 
-  pub binary-bad : {r : Refusal} → verdict firsts ≡ Bad r → verdict (binaryRules w h s c grid report memo stack) ≡ Bad r
+  pub binary-bad : {r : Refusal} → verdict firsts ≡ Bad r → verdict (binaryRunRules w h s c grid report memo stack) ≡ Bad r
   binary-bad e = append-bad firsts (cellRules grid ++ lasts) e
 
-  pub binary-cell : verdict firsts ≡ Fine → anyOf (λ n. ltb 2 n) grid ≡ true → verdict (binaryRules w h s c grid report memo stack) ≡ Bad BadCell
+  pub binary-cell : verdict firsts ≡ Fine → anyOf (λ n. ltb 2 n) grid ≡ true → verdict (binaryRunRules w h s c grid report memo stack) ≡ Bad BadCell
   binary-cell e f = append-fine firsts (cellRules grid ++ lasts) e ∙ rw f
 
   pub binary-fine : verdict firsts ≡ Fine → anyOf (λ n. ltb 2 n) grid ≡ false
-      → verdict (binaryRules w h s c grid report memo stack) ≡ verdict lasts
+      → verdict (binaryRunRules w h s c grid report memo stack) ≡ verdict lasts
   binary-fine e f = append-fine firsts (cellRules grid ++ lasts) e ∙ rw f
 
 -- ---- what the rules leave
@@ -99,7 +99,7 @@ module _ (w h : ℕ) (s : Start) (c : Card) (grid report memo stack : List ℕ) 
       append-parts (cardRules w h (length grid) c (length memo) (length stack)) (endRules w h s (length report) (room grid)) e in
       kept grid refl (p .0) (p .1)
 
-  pub judged-binary : verdict (binaryRules w h s c grid (length report) (length memo) (length stack)) ≡ Fine
+  pub judged-binary : verdict (binaryRunRules w h s c grid (length report) (length memo) (length stack)) ≡ Fine
       → Judged w h s c (map setOf grid) report memo stack
   judged-binary e =
       let ends = endRules w h s (length report) (room (map setOf grid)) in
@@ -107,7 +107,7 @@ module _ (w h : ℕ) (s : Start) (c : Card) (grid report memo stack : List ℕ) 
       let q = append-parts (cellRules grid) ends (p .1) in
       kept (map setOf grid) (length-map grid setOf) (p .0) (q .1)
 
-  pub cells-small : verdict (binaryRules w h s c grid (length report) (length memo) (length stack)) ≡ Fine → (i : ℕ) → getD grid i 0 ≤ 2
+  pub cells-small : verdict (binaryRunRules w h s c grid (length report) (length memo) (length stack)) ≡ Fine → (i : ℕ) → getD grid i 0 ≤ 2
   cells-small e =
       let ends = endRules w h s (length report) (room (map setOf grid)) in
       let p = append-parts (cardRules w h (length grid) c (length memo) (length stack)) (cellRules grid ++ ends) e in

@@ -14,7 +14,7 @@ use Rattle.rules.proofs.RunSteps.{some-one}
 use Rattle.run.specs.declared.Start.{Start}
 use Rattle.run.specs.declared.RunAnswer.{RunAnswer}
 use Rattle.run.specs.declared.RunAnswer.the-variants.{Done, Unsolvable, Refused}
-use Rattle.propagation.specs.Calls.{runRules, binaryRules, Ran, Runs, RunsBinary}
+use Rattle.propagation.specs.Calls.{runRules, binaryRunRules, Ran, RunsColoured, RunsBinary}
 use Rattle.run.specs.Ends.{Reply, replyOf}
 
 -- a reply tells its answer
@@ -61,20 +61,20 @@ one r s p q =
 -- ---- the calls: `run` where s is Full, `run_point` where it is a point
 
 module _ (w h : ℕ) (s : Start) (c : Card) (grid report memo stack : List ℕ) {g x m k g₂ x₂ m₂ k₂ : List ℕ} (r r₂ : RunAnswer) where
-  pub run-one : Runs w h s c grid report memo stack (replyOf r) g x m k → Runs w h s c grid report memo stack (replyOf r₂) g₂ x₂ m₂ k₂
+  pub coloured-run-one : RunsColoured w h s c grid report memo stack (replyOf r) g x m k → RunsColoured w h s c grid report memo stack (replyOf r₂) g₂ x₂ m₂ k₂
       → Same (runRules w h s c grid (length report) (length memo) (length stack)) r r₂ g x m k g₂ x₂ m₂ k₂
-  run-one p q = one r r₂ p q
+  coloured-run-one p q = one r r₂ p q
 
-  pub binary-one : RunsBinary w h s c grid report memo stack (replyOf r) g x m k → RunsBinary w h s c grid report memo stack (replyOf r₂) g₂ x₂ m₂ k₂
-      → Same (binaryRules w h s c grid (length report) (length memo) (length stack)) r r₂ g x m k g₂ x₂ m₂ k₂
-  binary-one p q = one r r₂ p q
+  pub binary-run-one : RunsBinary w h s c grid report memo stack (replyOf r) g x m k → RunsBinary w h s c grid report memo stack (replyOf r₂) g₂ x₂ m₂ k₂
+      → Same (binaryRunRules w h s c grid (length report) (length memo) (length stack)) r r₂ g x m k g₂ x₂ m₂ k₂
+  binary-run-one p q = one r r₂ p q
 
 -- ---- two calls that differ only in what memo and stack hold answer alike, and leave the same grid and report
 
 module _ (w h : ℕ) (s : Start) (c : Card) (grid report memo stack memo₂ stack₂ : List ℕ) (e : length memo ≡ length memo₂)
     (f : length stack ≡ length stack₂)
     {g x m k g₂ x₂ m₂ k₂ : List ℕ} (r r₂ : RunAnswer) where
-  pub memory-free : Runs w h s c grid report memo stack (replyOf r) g x m k → Runs w h s c grid report memo₂ stack₂ (replyOf r₂) g₂ x₂ m₂ k₂
+  pub memory-free : RunsColoured w h s c grid report memo stack (replyOf r) g x m k → RunsColoured w h s c grid report memo₂ stack₂ (replyOf r₂) g₂ x₂ m₂ k₂
       → (r ≡ r₂) × (g ≡ g₂) × (x ≡ x₂)
   memory-free p q = let a = alike (rw (e, f) at p) q in (reply-one r r₂ (a .0), a .1, a .2)
 

@@ -1,6 +1,5 @@
 -- What the four public calls of this crate promise: full runs and runs from a point, with coloured and with binary cells.
 use mathlib.Core.Path.{_≡_}
-use mathlib.Core.Logic.{_⊎_}
 use mathlib.Core.Bool.{Bool, true, not, _&&_}
 use mathlib.Core.List.{List, [], _∷_, _++_, map}
 use Prim.Native.Nat.{ℕ}
@@ -34,16 +33,16 @@ endRules w h s report n = OutsideGrid when not (inGrid w h s) ∷ ShortReport wh
 abbrev pub runRules : ℕ → ℕ → Start → Card → List ℕ → ℕ → ℕ → ℕ → List Rule
 runRules w h s c grid report memo stack = cardRules w h (length grid) c memo stack ++ endRules w h s report (room grid)
 
-abbrev pub binaryRules : ℕ → ℕ → Start → Card → List ℕ → ℕ → ℕ → ℕ → List Rule
-binaryRules w h s c grid report memo stack =
+abbrev pub binaryRunRules : ℕ → ℕ → Start → Card → List ℕ → ℕ → ℕ → ℕ → List Rule
+binaryRunRules w h s c grid report memo stack =
     cardRules w h (length grid) c memo stack ++ (cellRules grid ++ endRules w h s report (room (map setOf grid)))
 
 -- ---- answers
 
 -- the reply by the rules and the run
-abbrev pub reply : Verdict → Outcome → Reply
-reply (Bad w) o = refusal w
-reply Fine o = replyTo o
+abbrev pub runReply : Verdict → Outcome → Reply
+runReply (Bad w) o = refusal w
+runReply Fine o = replyTo o
 
 -- the grid after the call: as it stood, if the input is refused by checking
 abbrev pub gridLeft : Verdict → List ℕ → List ℕ → List ℕ
@@ -56,7 +55,7 @@ gridLeft Fine b grid = b
 -- call. After 0 or 8 the memo and the stack are left open
 pub record Ran (rules : List Rule) (end : Outcome) (board grid report memo stack : List ℕ) (t : Reply)
     (grid′ report′ memo′ stack′ : List ℕ) : Type 0 where
-  pub tells : t ≡ reply (verdict rules) end
+  pub tells : t ≡ runReply (verdict rules) end
   pub leaves : grid′ ≡ gridLeft (verdict rules) board grid
   pub reports : report′ ≡ left (verdict rules) (reportOf end) report
   pub kept-memo : (w : Refusal) → verdict rules ≡ Bad w → memo′ ≡ memo
@@ -65,26 +64,13 @@ pub record Ran (rules : List Rule) (end : Outcome) (board grid report memo stack
   pub long-stack : length stack′ ≡ length stack
 
 -- coloured cells
-abbrev pub Runs : ℕ → ℕ → Start → Card → List ℕ → List ℕ → List ℕ → List ℕ → Reply → List ℕ → List ℕ → List ℕ → List ℕ → Type 0
-Runs w h s c grid report memo stack =
+abbrev pub RunsColoured : ℕ → ℕ → Start → Card → List ℕ → List ℕ → List ℕ → List ℕ → Reply → List ℕ → List ℕ → List ℕ → List ℕ → Type 0
+RunsColoured w h s c grid report memo stack =
     Ran (runRules w h s c grid (length report) (length memo) (length stack)) (endOf w h s c grid)
     (boardOf (endOf w h s c grid)) grid report memo stack
 
 -- binary cells: the run is that of their sets, read back
 abbrev pub RunsBinary : ℕ → ℕ → Start → Card → List ℕ → List ℕ → List ℕ → List ℕ → Reply → List ℕ → List ℕ → List ℕ → List ℕ → Type 0
 RunsBinary w h s c grid report memo stack =
-    Ran (binaryRules w h s c grid (length report) (length memo) (length stack)) (endOf w h s c (map setOf grid))
+    Ran (binaryRunRules w h s c grid (length report) (length memo) (length stack)) (endOf w h s c (map setOf grid))
     (map cellOf (boardOf (endOf w h s c (map setOf grid)))) grid report memo stack
-
--- ---- a call's own answer, whichever kind of cell it has
-
--- a call on a board of sets, its reply, and the board of sets that it left
-pub data Answered (w h : ℕ) (s : Start) (c : Card) : List ℕ → Reply → List ℕ → Type 0 where
-  coloured : {grid report memo stack : List ℕ} {t : Reply} {grid′ report′ memo′ stack′ : List ℕ}
-      → Runs w h s c grid report memo stack t grid′ report′ memo′ stack′ → Answered w h s c grid t grid′
-  binary : {grid report memo stack : List ℕ} {t : Reply} {grid′ report′ memo′ stack′ : List ℕ}
-      → RunsBinary w h s c grid report memo stack t grid′ report′ memo′ stack′ → Answered w h s c (map setOf grid) t (map setOf grid′)
-
--- it passed the checks: its number is 0 or 8
-abbrev pub Passed : Reply → Type 0
-Passed t = (t .number ≡ 0) ⊎ (t .number ≡ 8)

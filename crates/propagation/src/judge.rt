@@ -1,23 +1,32 @@
 // The rules of a run: those of its card, then binary cells, the point, and the room of the report.
 use card::judge::judge_black_card;
 use card::judge::judge_card;
+use line::binary::set_of;
 use rules::Refusal;
 use rules::Verdict;
 use rules::judge::any_above;
 use run::Start;
 ghost use mathlib.Core.Path.{_≡_};
-ghost use mathlib.Core.Bool.{false};
 ghost use mathlib.Core.List.{map};
-ghost use Prim.Native.Nat.{_≤_};
-ghost use lib.Dec.{ltb};
+ghost use Prim.Native.Nat.{_-_, _≤_};
+ghost use lib.Count.{ones};
 ghost use lib.ListN.{length};
 ghost use Rattle.rules.specs.Binary.{setOf};
-ghost use Rattle.rules.specs.Card.{blackCard};
-ghost use Rattle.rules.specs.Ranges.{anyOf};
+ghost use Rattle.rules.specs.Card.{blackCard, cardOf};
 ghost use Rattle.rules.specs.Refusal.{verdict};
 ghost use Rattle.rules.specs.Run.{room};
-ghost use Rattle.card.specs.Steps.{cardOf};
-ghost use Rattle.propagation.specs.Calls.{inGrid, endRules, runRules, binaryRules};
+ghost use Rattle.propagation.specs.Calls.{inGrid, endRules, runRules, binaryRunRules};
+
+// The number of a set's colours less one. The empty set adds 0.
+fn less_one(set: u32) -> u64
+    ensures { λ r. ⌜ (r ≡ ones set - 1) × (r ≤ 32) ⌝ }
+{
+    let colours = u32::count_ones(set);
+    if colours == 0 {
+        return 0;
+    }
+    (colours - 1) as u64
+}
 
 // The room number: the sum, over all cells, of the number of its colours less one.
 fn count_room(cells: &[u32]) -> u64
@@ -27,26 +36,21 @@ fn count_room(cells: &[u32]) -> u64
     let mut sum: u64 = 0;
     let mut i = 0;
     while i < cells.len() {
-        let colours = u32::count_ones(cells[i]);
-        if colours > 0 {
-            sum += (colours - 1) as u64;
-        }
+        sum += less_one(cells[i]);
         i += 1;
     }
     sum
 }
 
-// The room number of binary cells: how many are undefined.
-fn count_open(cells: &[u32]) -> u64
-    requires { ⌜ (length (now cells) ≤ 4096) × (anyOf (λ c. ltb 2 c) (now cells) ≡ false) ⌝ }
+// The room number of binary cells: that of their sets.
+fn count_binary_room(cells: &[u32]) -> u64
+    requires { ⌜ length (now cells) ≤ 4096 ⌝ }
     ensures { λ r. ⌜ r ≡ room (map setOf (now (cells .entry))) ⌝ }
 {
     let mut sum: u64 = 0;
     let mut i = 0;
     while i < cells.len() {
-        if cells[i] == 0 {
-            sum += 1;
-        }
+        sum += less_one(set_of(cells[i]));
         i += 1;
     }
     sum
@@ -130,7 +134,7 @@ pub(crate) fn judge_binary(
     memo: usize,
     stack: usize,
 ) -> Verdict
-    ensures { λ r. ⌜ r ≡ verdict (binaryRules width height start (blackCard (now («row_counts» .entry)) (now («row_sizes» .entry)) (now («column_counts» .entry)) (now («column_sizes» .entry))) (now (grid .entry)) report memo stack) ⌝ }
+    ensures { λ r. ⌜ r ≡ verdict (binaryRunRules width height start (blackCard (now («row_counts» .entry)) (now («row_sizes» .entry)) (now («column_counts» .entry)) (now («column_sizes» .entry))) (now (grid .entry)) report memo stack) ⌝ }
 {
     let v = judge_black_card(
         width,
@@ -149,7 +153,7 @@ pub(crate) fn judge_binary(
             if any_above(grid, 2) {
                 return Verdict::Bad(Refusal::BadCell);
             }
-            judge_end(width, height, start, report, count_open(grid))
+            judge_end(width, height, start, report, count_binary_room(grid))
         }
     }
 }

@@ -6,9 +6,9 @@ use rules::Verdict;
 use run::RunAnswer;
 use run::Start;
 use run::jobs::run_judged;
-ghost use Rattle.card.specs.Steps.{cardOf};
 ghost use Rattle.run.specs.Ends.{replyOf};
-ghost use Rattle.propagation.specs.Calls.{Runs};
+ghost use Rattle.propagation.specs.Calls.{RunsColoured};
+ghost use Rattle.rules.specs.Card.{cardOf};
 
 fn run_from<'a, 'b>(
     width: usize,
@@ -25,7 +25,7 @@ fn run_from<'a, 'b>(
     memo: &mut [u8],
     stack: &mut [u32],
 ) -> RunAnswer
-    ensures { λ r. ⌜ Runs width height start (cardOf (now («row_counts» .entry)) (now («row_sizes» .entry)) (now («row_colours» .entry)) (now («column_counts» .entry)) (now («column_sizes» .entry)) (now («column_colours» .entry))) (now (grid .entry)) (now (report .entry)) (now (memo .entry)) (now (stack .entry)) (replyOf r) (now (grid .exit)) (now (report .exit)) (now (memo .exit)) (now (stack .exit)) ⌝ }
+    ensures { λ r. ⌜ RunsColoured width height start (cardOf (now («row_counts» .entry)) (now («row_sizes» .entry)) (now («row_colours» .entry)) (now («column_counts» .entry)) (now («column_sizes» .entry)) (now («column_colours» .entry))) (now (grid .entry)) (now (report .entry)) (now (memo .entry)) (now (stack .entry)) (replyOf r) (now (grid .exit)) (now (report .exit)) (now (memo .exit)) (now (stack .exit)) ⌝ }
 {
     let v = judge(
         width,
@@ -77,7 +77,7 @@ pub fn run<'a, 'b>(
     memo: &mut [u8],
     stack: &mut [u32],
 ) -> RunAnswer
-    ensures { λ r. ⌜ Runs width height Start.Full (cardOf (now («row_counts» .entry)) (now («row_sizes» .entry)) (now («row_colours» .entry)) (now («column_counts» .entry)) (now («column_sizes» .entry)) (now («column_colours» .entry))) (now (grid .entry)) (now (report .entry)) (now (memo .entry)) (now (stack .entry)) (replyOf r) (now (grid .exit)) (now (report .exit)) (now (memo .exit)) (now (stack .exit)) ⌝ }
+    ensures { λ r. ⌜ RunsColoured width height Start.Full (cardOf (now («row_counts» .entry)) (now («row_sizes» .entry)) (now («row_colours» .entry)) (now («column_counts» .entry)) (now («column_sizes» .entry)) (now («column_colours» .entry))) (now (grid .entry)) (now (report .entry)) (now (memo .entry)) (now (stack .entry)) (replyOf r) (now (grid .exit)) (now (report .exit)) (now (memo .exit)) (now (stack .exit)) ⌝ }
 {
     run_from(
         width,
@@ -113,7 +113,7 @@ pub fn run_point<'a, 'b>(
     memo: &mut [u8],
     stack: &mut [u32],
 ) -> RunAnswer
-    ensures { λ r. ⌜ Runs width height (Start.Point x y) (cardOf (now («row_counts» .entry)) (now («row_sizes» .entry)) (now («row_colours» .entry)) (now («column_counts» .entry)) (now («column_sizes» .entry)) (now («column_colours» .entry))) (now (grid .entry)) (now (report .entry)) (now (memo .entry)) (now (stack .entry)) (replyOf r) (now (grid .exit)) (now (report .exit)) (now (memo .exit)) (now (stack .exit)) ⌝ }
+    ensures { λ r. ⌜ RunsColoured width height (Start.Point x y) (cardOf (now («row_counts» .entry)) (now («row_sizes» .entry)) (now («row_colours» .entry)) (now («column_counts» .entry)) (now («column_sizes» .entry)) (now («column_colours» .entry))) (now (grid .entry)) (now (report .entry)) (now (memo .entry)) (now (stack .entry)) (replyOf r) (now (grid .exit)) (now (report .exit)) (now (memo .exit)) (now (stack .exit)) ⌝ }
 {
     run_from(
         width,

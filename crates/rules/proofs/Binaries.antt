@@ -1,17 +1,17 @@
 -- A line's answer is what the rules say, and nothing else is; and the binary reading: a cell becomes 1 or 2 if all agreeing placements say so, else 0.
-use mathlib.Core.Path.{_≡_, refl, ap, ap₂, _∙_, subst}
-use mathlib.Core.Logic.{_↔_}
+use mathlib.Core.Path.{_≡_, refl, sym, ap, ap₂, _∙_, subst}
+use mathlib.Core.Logic.{_↔_, _≢_}
 use mathlib.Core.List.{List, [], _∷_, map}
 use mathlib.Core.Option.{Option}
 use Prim.Native.Nat.{ℕ, zero, suc, _^_, _≤_, _<_}
 use native.Mathlib.Omega.{arith}
 use lib.ListN.{length, getD, List·getD-map}
 use Rattle.rules.specs.Colour.{Has, Subset}
-use Rattle.rules.specs.Answer.{Fitting, Exact, Answers, answer, Proper}
+use Rattle.rules.specs.Answer.{Fitting, Differing, Exact, Answers, answer, Proper}
 use Rattle.rules.specs.Block.{Block}
 use Rattle.rules.specs.Placement.{Placement, placements}
 use Rattle.rules.specs.Binary.{setOf, cellOf, lineAnswer}
-use Rattle.rules.proofs.Colours.{has-pow, has-pow-only, subset-antisym, pow-subset}
+use Rattle.rules.proofs.Colours.{has-nonzero, has-pow, has-pow-only, subset-antisym, pow-subset}
 use Rattle.rules.proofs.Answers.{full, proper-at, agrees-long, answer-for, answer-only}
 use Rattle.rules.proofs.Placements.{placements-exact}
 
@@ -42,6 +42,16 @@ sets-small [] f i = omega arith
 sets-small (a ∷ l) f zero = set-small a (f 0)
 sets-small (a ∷ l) f (suc i) = sets-small l (λ j. f (suc j)) i
 
+set-some : (c : ℕ) → setOf c ≢ 0
+set-some zero e = omega arith
+set-some (suc n) e = omega arith
+
+-- no cell is the empty set
+pub sets-some : (l : List ℕ) (i : ℕ) → i < length (map setOf l) → getD (map setOf l) i 0 ≢ 0
+sets-some [] i h = absurd (omega arith)
+sets-some (c ∷ l) zero h = set-some c
+sets-some (c ∷ l) (suc i) h = sets-some l i (omega arith)
+
 module _ {P : List ℕ → Type 0} (o : (p : List ℕ) → P p → Proper p) {l m : List ℕ} (x : Exact P l m) (i : ℕ) (r : i < length l) where
   -- the set of cell i is the one colour 2 ^ k exactly if all agreeing placements give that colour
   pub all-say : (k : ℕ) → (getD m i 0 ≡ 2 ^ k) ↔ ((p : List ℕ) → Fitting P l p → getD p i 0 ≡ 2 ^ k)
@@ -69,8 +79,21 @@ cell-two (suc zero) = (λ e. e, λ e. e)
 cell-two (suc (suc zero)) = (λ e. e, λ e. e)
 cell-two (suc (suc (suc n))) = (λ e. omega arith, λ e. omega arith)
 
+-- a set of blank and black is undefined exactly if it is both
+set-open : (s : ℕ) → s ≢ 0 → s ≤ 3 → cellOf s ≡ 0 → s ≡ 3
+set-open zero p h e = absurd (p refl)
+set-open (suc zero) p h e = absurd (omega arith)
+set-open (suc (suc zero)) p h e = absurd (omega arith)
+set-open (suc (suc (suc n))) p h e = omega arith
+
+cell-open : (s : ℕ) → s ≢ 1 → s ≢ 2 → cellOf s ≡ 0
+cell-open zero a b = refl
+cell-open (suc zero) a b = absurd (a refl)
+cell-open (suc (suc zero)) a b = absurd (b refl)
+cell-open (suc (suc (suc n))) a b = refl
+
 module _ {P : List ℕ → Type 0} (o : (p : List ℕ) → P p → Proper p) {l m : List ℕ} (x : Exact P l m) (i : ℕ) (r : i < length l) where
-  -- white, black, or undefined where they differ
+  -- white, black
   pub binary-white : (getD (map cellOf m) i 0 ≡ 1) ↔ ((p : List ℕ) → Fitting P l p → getD p i 0 ≡ 1)
   binary-white = (
     λ e. all-say o x i r 0 .0 (cell-one (getD m i 0) .0 (rw (List·getD-map cellOf m i 0) at e)),
@@ -82,3 +105,26 @@ module _ {P : List ℕ → Type 0} (o : (p : List ℕ) → P p → Proper p) {l 
     λ e. all-say o x i r 1 .0 (cell-two (getD m i 0) .0 (rw (List·getD-map cellOf m i 0) at e)),
     λ f. rw (List·getD-map cellOf m i 0) (cell-two (getD m i 0) .1 (all-say o x i r 1 .1 f)),
   )
+
+  -- undefined exactly where two of them differ
+  pub binary-open : getD m i 0 ≤ 3 → (getD (map cellOf m) i 0 ≡ 0) ↔ Differing P l i
+  binary-open small = (
+    λ e. both (set-open (getD m i 0) (has-nonzero (full o x i r .1)) small (rw (List·getD-map cellOf m i 0) at e)),
+    λ d. rw (List·getD-map cellOf m i 0)
+        (cell-open (getD m i 0) (λ e. d .differ (say-same 0 d e)) (λ e. d .differ (say-same 1 d e))),
+  )
+    where
+      -- if the set is one colour, both placements give it
+      say-same : (k : ℕ) (d : Differing P l i) → getD m i 0 ≡ 2 ^ k → getD (d .one) i 0 ≡ getD (d .other) i 0
+      say-same k d e = all-say o x i r k .0 e (d .one) (d .one-ok) ∙ sym (all-say o x i r k .0 e (d .other) (d .other-ok))
+
+      both : getD m i 0 ≡ 3 → Differing P l i
+      both e =
+          let s = x .sound i 0 (rw e (record { on = refl })) in
+          let t = x .sound i 1 (rw e (record { on = refl })) in
+          record { one = s .by; other = t .by; one-ok = s .ok; other-ok = t .ok; differ = λ q. apart (s .by) (s .ok) (s .gives) (rw q (t .gives)) }
+        where
+          apart : (p : List ℕ) → Fitting P l p → Has (getD p i 0) 0 → Has (getD p i 0) 1 → ⊥
+          apart p f a b =
+              let c = proper-at p i (o p (f .member)) (omega (arith, agrees-long l p (f .fits))) in
+              omega (arith, has-pow-only (c .0) 0 (rw (c .1) at a), has-pow-only (c .0) 1 (rw (c .1) at b))

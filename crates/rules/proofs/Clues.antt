@@ -18,32 +18,32 @@ use Rattle.rules.proofs.Tests.{Compared, eqb-cases}
 
 -- ---- the computed clue is the line's runs
 
-slide : (n c : ℕ) (l : List ℕ) → replicate (suc n) c ++ l ≡ replicate n c ++ (c ∷ l)
-slide zero c l = refl
-slide (suc n) c l = ap (λ (m : List ℕ). c ∷ m) (slide n c l)
+run-slide : (n c : ℕ) (l : List ℕ) → replicate (suc n) c ++ l ≡ replicate n c ++ (c ∷ l)
+run-slide zero c l = refl
+run-slide (suc n) c l = ap (λ (m : List ℕ). c ∷ m) (run-slide n c l)
 
 -- with no run open, or with the run of n codes c open
-record Told (e : ℕ) (l : List ℕ) : Type 0 where
+record Computed (e : ℕ) (l : List ℕ) : Type 0 where
   shut : RunsOf e l (runs e none l)
   opened : (n c : ℕ) → 0 < n → c ≢ e → RunsOf e (replicate n c ++ l) (runs e (some (n of c)) l)
 
-told : (e : ℕ) (l : List ℕ) → Told e l
+told : (e : ℕ) (l : List ℕ) → Computed e l
 told e [] = record { shut = no-code; opened = λ n c h d. a-run n c h d tt no-code }
 told e (d ∷ l) = let r = told e l in record { shut = shut r (eqb-cases d e); opened = λ n c h f. opened r n c h f (eqb-cases d e) (eqb-cases d c) }
   where
-    blank-first : Told e l → d ≡ e → RunsOf e (d ∷ l) (runs e none l)
+    blank-first : Computed e l → d ≡ e → RunsOf e (d ∷ l) (runs e none l)
     blank-first r p = subst (λ (x : ℕ). RunsOf e (x ∷ l) (runs e none l)) (sym p) (a-blank (r .shut))
 
-    shut : Told e l → Compared d e → RunsOf e (d ∷ l) (runs e none (d ∷ l))
+    shut : Computed e l → Compared d e → RunsOf e (d ∷ l) (runs e none (d ∷ l))
     shut r (inl p) = rw (p .1) (blank-first r (p .0))
     shut r (inr p) = rw (p .1) (r .opened 1 d (omega arith) (p .0))
 
-    opened : Told e l → (n c : ℕ) → 0 < n → c ≢ e → Compared d e
+    opened : Computed e l → (n c : ℕ) → 0 < n → c ≢ e → Compared d e
         → Compared d c → RunsOf e (replicate n c ++ (d ∷ l)) (runs e (some (n of c)) (d ∷ l))
     opened r n c h f (inl p) q = rw (p .1) (a-run {l = d ∷ l} n c h f (λ u. f (sym u ∙ p .0)) (blank-first r (p .0)))
     opened r n c h f (inr p) (inl q) =
         rw (p .1, q .1, q .0)
-        (subst (λ (m : List ℕ). RunsOf e m (runs e (some (suc n of c)) l)) (slide n c l) (r .opened (suc n) c (omega arith) f))
+        (subst (λ (m : List ℕ). RunsOf e m (runs e (some (suc n of c)) l)) (run-slide n c l) (r .opened (suc n) c (omega arith) f))
     opened r n c h f (inr p) (inr q) = rw (p .1, q .1) (a-run n c h f (q .0) (r .opened 1 d (omega arith) (p .0)))
 
 pub clue-runs : (e : ℕ) (l : List ℕ) → RunsOf e l (clue e l)

@@ -18,16 +18,16 @@ use Rattle.rules.proofs.Blocks.{colour-legal}
 
 -- ---- a test that some number of a list passes
 
-record Found (f : ℕ → Bool) (l : List ℕ) : Type 0 where
+record Passing (f : ℕ → Bool) (l : List ℕ) : Type 0 where
   at : ℕ
   at-in : at < length l
   passes : f (getD l at 0) ≡ true
 
-any-found : (f : ℕ → Bool) (l : List ℕ) → anyOf f l ≡ true → Found f l
+any-found : (f : ℕ → Bool) (l : List ℕ) → anyOf f l ≡ true → Passing f l
 any-found f [] e = absurd (true-not-false (sym e))
 any-found f (d ∷ l) e = go (f d) refl e (λ q. any-found f l q)
   where
-    go : (t : Bool) → f d ≡ t → cond t true (anyOf f l) ≡ true → (anyOf f l ≡ true → Found f l) → Found f (d ∷ l)
+    go : (t : Bool) → f d ≡ t → cond t true (anyOf f l) ≡ true → (anyOf f l ≡ true → Passing f l) → Passing f (d ∷ l)
     go true p q ih = record { at = 0; at-in = omega arith; passes = p }
     go false p q ih = let r = ih q in record { at = suc (r .at); at-in = omega (arith, r .at-in); passes = r .passes }
 

@@ -91,6 +91,9 @@ subset-antisym {s} {t} f g = bit-ext s t λ k. le-antisymm (subset-le f k) (subs
 pub not-has-zero : {k : ℕ} → Has 0 k → ⊥
 not-has-zero {k} h = omega (arith, bit-zero k)
 
+pub has-nonzero : {s k : ℕ} → Has s k → s ≢ 0
+has-nonzero {s} {k} g e = not-has-zero (subst (λ (n : ℕ). Has n k) e g)
+
 -- a cell that has a colour is one of the list
 pub has-inside : (m : List ℕ) (i k : ℕ) → Has (getD m i 0) k → i < length m
 has-inside m i k g = below? i (length m) (λ h. h) (λ h. absurd (not-has-zero (rw (List·getD-eq-default m 0 {n = i} h) at g)))

@@ -9,7 +9,9 @@ pub mod Answers
 pub mod Binaries
 pub mod Packings
 pub mod Ranges
+pub mod Tight
 pub mod Clues
+pub mod Descriptions
 pub mod Codes
 pub mod Verdicts
 pub mod Replies
@@ -21,5 +23,6 @@ pub mod Stacks
 pub mod Rooms
 pub mod RunSteps
 pub mod Runs
+pub mod Leavings
 pub mod Cards
 pub mod Examples

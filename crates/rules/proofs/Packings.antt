@@ -14,12 +14,12 @@ laid-long end = omega arith
 laid-long (blank d) = omega (arith, laid-long d)
 laid-long (piece {p = p} {l = l} d) = omega (arith, laid-long d, length-append p l)
 
-blanks : (n : ℕ) → Lay [] n (replicate n 1)
-blanks zero = record { laid = end; long = refl }
-blanks (suc n) = record { laid = blank (blanks n .laid); long = length-replicate (suc n) 1 }
+pub blank-line : (n : ℕ) → Lay [] n (replicate n 1)
+blank-line zero = record { laid = end; long = refl }
+blank-line (suc n) = record { laid = blank (blank-line n .laid); long = length-replicate (suc n) 1 }
 
 pub packs : (ps : List (List ℕ)) (n : ℕ) → total ps ≤ n → (l : List ℕ) × Lay ps n l
-packs [] n h = (replicate n 1, blanks n)
+packs [] n h = (replicate n 1, blank-line n)
 packs (p ∷ ps) n h =
     let r = packs ps (n - length p) (omega arith) in
     (p ++ r .0, record { laid = piece (r .1 .laid); long = omega (arith, length-append p (r .0), r .1 .long) })

@@ -39,7 +39,7 @@ last-low c k i (d ∷ l) h = go (eqb d c) (λ x y. last-low c x (suc i) l y)
     go false ih = ih k (omega arith)
 
 -- no later index has the number, and it is one of the list
-last-most : (c k i : ℕ) (l : List ℕ) (j : ℕ) → j < length l → getD l j 0 ≡ c → i + j ≤ lastOf c k i l
+pub last-most : (c k i : ℕ) (l : List ℕ) (j : ℕ) → j < length l → getD l j 0 ≡ c → i + j ≤ lastOf c k i l
 last-most c k i [] j h e = absurd (omega arith)
 last-most c k i (d ∷ l) zero h e =
     subst (λ (t : Bool). i + 0 ≤ lastOf c (cond t i k) (suc i) l) (sym (eq-eqb d c e)) (omega (arith, last-low c i (suc i) l (omega arith)))
@@ -91,12 +91,12 @@ new-not-seen c seen (d ∷ l) e = go (anyOf (λ x. eqb x d) seen) refl (eqb-case
 
 -- ---- the leftmost packing only goes on
 
-starts-low : (s : ℕ) (bs : List Block) (k : ℕ) → k < length bs → s ≤ getD (startsFrom s bs) k 0
+pub starts-low : (s : ℕ) (bs : List Block) (k : ℕ) → k < length bs → s ≤ getD (startsFrom s bs) k 0
 starts-low s [] k h = absurd (omega arith)
 starts-low s (b ∷ bs) zero h = omega arith
 starts-low s (b ∷ bs) (suc k) h = omega (arith, starts-low (s + b .size + length (gap (b .colour) bs)) bs k (omega arith))
 
-starts-mono : (s : ℕ) (bs : List Block) (i j : ℕ) → i ≤ j → j < length bs → getD (startsFrom s bs) i 0 ≤ getD (startsFrom s bs) j 0
+pub starts-mono : (s : ℕ) (bs : List Block) (i j : ℕ) → i ≤ j → j < length bs → getD (startsFrom s bs) i 0 ≤ getD (startsFrom s bs) j 0
 starts-mono s [] i j h k = absurd (omega arith)
 starts-mono s (b ∷ bs) zero j h k = starts-low s (b ∷ bs) j k
 starts-mono s (b ∷ bs) (suc i) zero h k = absurd (omega arith)
@@ -123,11 +123,11 @@ record Owner (bs : List Block) (s at slack c : ℕ) : Type 0 where
   after : getD (startsFrom s bs) k 0 ≤ at
   before : at < getD (sumsFrom s bs) k 0 + slack
 
-below? : (a b : ℕ) → (a < b) ⊎ (b ≤ a)
-below? zero zero = inr (omega arith)
-below? zero (suc b) = inl (omega arith)
-below? (suc a) zero = inr (omega arith)
-below? (suc a) (suc b) = go (below? a b)
+compare : (a b : ℕ) → (a < b) ⊎ (b ≤ a)
+compare zero zero = inr (omega arith)
+compare zero (suc b) = inl (omega arith)
+compare (suc a) zero = inr (omega arith)
+compare (suc a) (suc b) = go (compare a b)
   where
     go : (a < b) ⊎ (b ≤ a) → (suc a < suc b) ⊎ (suc b ≤ suc a)
     go (inl h) = inl (omega arith)
@@ -165,7 +165,7 @@ owner bs (blank {ps = ps} {l = l} t) e s (suc p) h d =
     }
 owner [] (piece t) e s p h d = absurd (cons≢nil e)
 owner (b ∷ bs) (piece {p = q} {ps = ps} {l = l} t) e s p h d =
-    go (below? p (length q)) (λ j x y. owner bs t (tail-eq-of-cons-eq e) (s + b .size + length (gap (b .colour) bs)) j x y)
+    go (compare p (length q)) (λ j x y. owner bs t (tail-eq-of-cons-eq e) (s + b .size + length (gap (b .colour) bs)) j x y)
   where
     q-is : q ≡ replicate (b .size) (b .colour) ++ gap (b .colour) bs
     q-is = head-eq-of-cons-eq e

@@ -112,8 +112,8 @@ module _ (e : ℕ) where
       first zero p q = absurd (omega arith)
       first (suc n) p q = allowed c (replicate n c ++ l) q d
 
-  pub clue-legal : (l : List ℕ) → badCode e l ≡ false → Legal (clue e l)
-  clue-legal l g = legal-runs (clue-runs e l) g
+  pub codes-legal : (l : List ℕ) → badCode e l ≡ false → Legal (clue e l)
+  codes-legal l g = legal-runs (clue-runs e l) g
 
 -- ---- binary codes
 

@@ -1,16 +1,15 @@
 -- Settled boards, and what solving and storing a line keeps of them, for any set of placements of each line.
-use mathlib.Core.Path.{_≡_, refl, sym, _∙_, subst}
+use mathlib.Core.Path.{_≡_, refl, sym, _∙_}
 use mathlib.Core.Logic.{_⊎_, inl, inr, ⊎-elim, _≢_}
 use mathlib.Core.List.{List}
-use Prim.Native.Nat.{ℕ, _+_, _*_, _/_, _%_, _<_}
-use native.Mathlib.Nat.{div-add-mod', div-lt-iff-lt-mul, mod-lt}
+use Prim.Native.Nat.{ℕ, _+_, _*_, _<_}
 use native.Mathlib.Omega.{arith}
 use lib.ListN.{length, getD}
 use Rattle.rules.specs.Colour.{Has, Subset}
 use Rattle.rules.specs.Answer.{Fitting, Shown, Exact, Refused, Proper, Within, join}
 use Rattle.rules.specs.declared.LinePosition.{LinePosition}
 use Rattle.rules.specs.Board.{row, column, len, On, place, lineOf, store, Settled, Stable, Picture, Kept, Widest, Unsettled}
-use Rattle.rules.proofs.Colours.{subset-refl, not-has-zero, some-colour, has-or, has-left, has-right, has-pow}
+use Rattle.rules.proofs.Colours.{subset-refl, has-nonzero, some-colour, has-or, has-left, has-right, has-pow}
 use Rattle.rules.proofs.Answers.{within-refl, within-trans, within-antisym, getD-join, length-join, wider, shown-wider, shown-has, narrows, again, within-agrees, full}
 use Rattle.rules.specs.declared.LinePosition.the-variants.{Row, Column}
 use Rattle.rules.proofs.Boards.{length-line, getD-line, line-end, line-within, length-store, store-at, store-other, line-store, find}
@@ -81,9 +80,6 @@ module _ {P : LinePosition → List ℕ → Type 0} (w h : ℕ) (proper : (l : L
     refusal q l o r =
         record { none = λ s z u. let f = some-shown z l o in r .never (f .0) (wider (proper l) (line-within w h l (q .above s z u)) (f .1)) }
 
-  has-nonzero : {s k : ℕ} → Has s k → s ≢ 0
-  has-nonzero {s} {k} g e = not-has-zero (subst (λ (n : ℕ). Has n k) e g)
-
   -- where every line is stable the board is settled
   pub stable-settled : {b : List ℕ} → length b ≡ h * w → ((l : LinePosition) → On w h l → Stable P w h b l) → Settled P w h b
   stable-settled {b} size st =
@@ -99,14 +95,6 @@ module _ {P : LinePosition → List ℕ → Type 0} (w h : ℕ) (proper : (l : L
   pub settled-stable : {b : List ℕ} → 0 < w → 0 < h → Settled P w h b → (l : LinePosition) → On w h l → Stable P w h b l
   settled-stable {b} wide high z l o =
       record { long = refl; any = some-shown wide high z l o; sound = settled-shown z l o; whole = λ i k s. shown-has (proper l) s }
-
-  -- each cell of a settled board has a colour
-  pub settled-cell : {b : List ℕ} → 0 < w → Settled P w h b → (i : ℕ) → i < length b → 0 < getD b i 0
-  settled-cell {b} wide z i k =
-      let e : i / w * w + i % w ≡ i = div-add-mod' i w in
-      let f = z .filled (i % w) (i / w) (mod-lt i wide) (div-lt-iff-lt-mul wide .1 (rw (z .size) at k)) in
-      let d : getD b i 0 ≢ 0 = rw e at f in
-      omega arith
 
   -- ---- the widest settled board
 

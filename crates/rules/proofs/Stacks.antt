@@ -16,7 +16,8 @@ use Rattle.rules.proofs.Lists.{mem-map, map-mem, mem-reverse, reverse-m
 use Rattle.rules.specs.declared.LinePosition.the-variants.{Row, Column}
 use Rattle.rules.proofs.Tests.{Compared, eqb-cases}
 
-abbrev indexOf : LinePosition → ℕ
+-- the number of a row or of a column
+abbrev pub indexOf : LinePosition → ℕ
 indexOf (Row y) = y .0
 indexOf (Column x) = x .0
 

@@ -1,5 +1,6 @@
 -- One line: which placements agree with it, and its answer. P says which lists of colours are placements: any set of them will do.
 use mathlib.Core.Path.{_≡_}
+use mathlib.Core.Logic.{_≢_}
 use mathlib.Core.Bool.{Bool, true, false, _&&_}
 use mathlib.Core.List.{List, [], _∷_}
 use mathlib.Core.Option.{Option, none, some}
@@ -26,6 +27,14 @@ pub record Shown (P : List ℕ → Type 0) (l : List ℕ) (i k : ℕ) : Type 0 w
   pub by : List ℕ
   pub ok : Fitting P l by
   pub gives : Has (getD by i 0) k
+
+-- two agreeing placements give cell i different colours
+pub record Differing (P : List ℕ → Type 0) (l : List ℕ) (i : ℕ) : Type 0 where
+  pub one : List ℕ
+  pub other : List ℕ
+  pub one-ok : Fitting P l one
+  pub other-ok : Fitting P l other
+  pub differ : getD one i 0 ≢ getD other i 0
 
 -- no placement agrees with the line
 pub record Refused (P : List ℕ → Type 0) (l : List ℕ) : Type 0 where

@@ -20,17 +20,13 @@ pub record Card : Type 0 where
   pub columnSizes : List ℕ
   pub columnColours : List ℕ
 
+-- the card of the six lent lists
+abbrev pub cardOf : List ℕ → List ℕ → List ℕ → List ℕ → List ℕ → List ℕ → Card
+cardOf rc rs rt cc cs ct = record { rowCounts = rc; rowSizes = rs; rowColours = rt; columnCounts = cc; columnSizes = cs; columnColours = ct }
+
 -- the card of binary clues: every block is black
 abbrev pub blackCard : List ℕ → List ℕ → List ℕ → List ℕ → Card
-blackCard rowCounts rowSizes columnCounts columnSizes =
-    record {
-      rowCounts = rowCounts;
-      rowSizes = rowSizes;
-      rowColours = blacks rowSizes;
-      columnCounts = columnCounts;
-      columnSizes = columnSizes;
-      columnColours = blacks columnSizes;
-    }
+blackCard rc rs cc cs = cardOf rc rs (blacks rs) cc cs (blacks cs)
 
 abbrev pub sum : List ℕ → ℕ
 sum [] = 0

@@ -7,7 +7,7 @@ use lib.ListN.{length}
 use Rattle.rules.specs.Block.{blocks, illegal}
 use Rattle.rules.specs.Ranges.{anyOf}
 use Rattle.rules.specs.Card.{Card, sum}
-use Rattle.rules.specs.Refusal.{Rule, _when_, sideRules}
+use Rattle.rules.specs.Refusal.{Rule, _when_, sideRules, memoSize, stackSize}
 use Rattle.rules.specs.declared.Refusal.the-variants.{BadRoom, TooManyBlocks, BadBlock}
 
 -- one direction's lists: a count for each line, as many sizes as the counts say, and as many colours
@@ -16,7 +16,7 @@ countsFit lines counts sizes colours = eqb (length counts) lines && (eqb (sum co
 
 -- exactly width × height cells, a memo of at least 65 × 64 bytes and a stack of at least 128 entries
 abbrev pub roomFits : ℕ → ℕ → ℕ → ℕ → ℕ → Bool
-roomFits w h cells memo stack = eqb cells (w * h) && (leb 4160 memo && leb 128 stack)
+roomFits w h cells memo stack = eqb cells (w * h) && (leb memoSize memo && leb stackSize stack)
 
 -- some line has more than 64 blocks
 abbrev pub crowded : List ℕ → Bool

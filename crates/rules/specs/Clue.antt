@@ -1,4 +1,5 @@
 -- Clues of a line of picture codes, and which codes are allowed. e is the blank code, which may be any number.
+use mathlib.Core.Path.{_≡_}
 use mathlib.Core.Logic.{_≢_}
 use mathlib.Core.Bool.{Bool, true, false, cond, not}
 use mathlib.Core.List.{List, [], _∷_, _++_}
@@ -85,9 +86,22 @@ readCode e c = cond (eqb c e) 1 c
 abbrev pub readBinary : ℕ → ℕ → ℕ
 readBinary e c = cond (eqb c e) 1 2
 
--- ---- Description::new: the blocks but for those equal to the default, of size 0 and colour d
+-- ---- Description::new: the blocks but for those equal to the default, in order
 
--- coloured, the default has colour 0; a binary block has no colour but black, so that its size decides
+-- k are the items of the list l but for those of which D holds, in order
+pub data Sifted {A : Type 0} (D : A → Type 0) : List A → List A → Type 0 where
+  no-items : Sifted D [] []
+  dropped : {a : A} {l k : List A} → D a → Sifted D l k → Sifted D (a ∷ l) k
+  kept : {a : A} {l k : List A} → (D a → ⊥) → Sifted D l k → Sifted D (a ∷ l) (a ∷ k)
+
+-- the default: a coloured block of size 0 and colour 0, a binary block of size 0
+abbrev pub NoBlock : Block → Type 0
+NoBlock b = (b .size ≡ 0) × (b .colour ≡ 0)
+
+abbrev pub NoSize : ℕ → Type 0
+NoSize n = n ≡ 0
+
+-- the same computed, where the default has the colour d: 0 if coloured; a binary block has no colour but black, so that its size decides
 abbrev pub colouredDefault : ℕ
 colouredDefault = 0
 

@@ -27,6 +27,14 @@ refusalNumber ShortReport = 7
 refusalNumber BadCode = 9
 refusalNumber NoSpace = 10
 
+-- ---- working memory: a memo of 65 × 64 bytes, and a stack that holds every line of a board of 64 × 64 once
+
+abbrev pub memoSize : ℕ
+memoSize = 4160
+
+abbrev pub stackSize : ℕ
+stackSize = 128
+
 -- ---- rules
 
 -- a rule of a call: its refusal, and whether the input breaks it

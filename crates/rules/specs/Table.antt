@@ -24,11 +24,11 @@ abbrev pub flat : List Block → List ℕ
 flat [] = []
 flat (b ∷ bs) = b .size ∷ b .colour ∷ flat bs
 
-abbrev pub replyTo : Question → List ℕ
-replyTo (binaryLine sizes l) = solved (binaryAnswer sizes l)
-replyTo (colouredLine bs l) = solved (lineAnswer bs l)
-replyTo (binaryClue l) = cond (mixedCode 1 l) (9 ∷ []) (0 ∷ sizesOf (clue 1 l))
-replyTo (colouredClue l) = cond (badCode 1 l) (9 ∷ []) (0 ∷ flat (clue 1 l))
+abbrev pub answerTo : Question → List ℕ
+answerTo (binaryLine sizes l) = solved (binaryAnswer sizes l)
+answerTo (colouredLine bs l) = solved (lineAnswer bs l)
+answerTo (binaryClue l) = cond (mixedCode 1 l) (9 ∷ []) (0 ∷ sizesOf (clue 1 l))
+answerTo (colouredClue l) = cond (badCode 1 l) (9 ∷ []) (0 ∷ flat (clue 1 l))
 
 pub record Case : Type 0 where
   pub asked : Question

@@ -15,6 +15,7 @@ use Rattle.rules.proofs.Boards.{length-store}
 use Rattle.rules.proofs.Cards.{straight-proper, straight-right}
 use Rattle.rules.proofs.Runs.{room-step, measure-step, js-lt}
 use Rattle.rules.proofs.RunSteps.{run-stop, run-none, run-some}
+use Rattle.rules.specs.Refusal.{memoSize, stackSize}
 use Rattle.loops.specs.Put.{Put}
 use Rattle.loops.proofs.Going.{put-then, put-count}
 use Rattle.grid.specs.Grid.{Grid, changes, news}
@@ -33,7 +34,7 @@ module _ (w h : ℕ) (c : Card) (b₀ report₀ stack₀ : List ℕ) (n₀ : ℕ
   whole = run w h (solveStraight w h (clueOf c)) (room b₀ + n₀) (stackOf stack₀ n₀) b₀ [] 0
 
   -- with the fuel that is left, the run from here comes to the same end; what was told stands in the report
-  pub record Going (b report : List ℕ) (entries : ℕ) (stack : List ℕ) (n lines : ℕ) : Type 0 where
+  pub record Running (b report : List ℕ) (entries : ℕ) (stack : List ℕ) (n lines : ℕ) : Type 0 where
     pub fuel : ℕ
     pub told : List ℕ
     pub enough : room b + n ≤ fuel
@@ -45,7 +46,7 @@ module _ (w h : ℕ) (c : Card) (b₀ report₀ stack₀ : List ℕ) (n₀ : ℕ
     pub spare : entries + room b ≤ length report₀
 
   module _ {memo column answer : List ℕ} (v : Begins w h c b₀ report₀ memo column answer stack₀ n₀) where
-    pub run-starts : Going b₀ report₀ 0 stack₀ n₀ 0
+    pub run-starts : Running b₀ report₀ 0 stack₀ n₀ 0
     run-starts =
         record {
           fuel = room b₀ + n₀;
@@ -59,12 +60,12 @@ module _ (w h : ℕ) (c : Card) (b₀ report₀ stack₀ : List ℕ) (n₀ : ℕ
           spare = omega (arith, v .reports);
         }
 
-  module _ (right : RightCard w h c) {b report : List ℕ} {entries : ℕ} {stack : List ℕ} {n lines : ℕ} (g : Going b report entries stack n lines) where
+  module _ (right : RightCard w h c) {b report : List ℕ} {entries : ℕ} {stack : List ℕ} {n lines : ℕ} (g : Running b report entries stack n lines) where
     pub long : length report ≡ length report₀
     long = ap length (g .reports .holds) ∙ length-sets report₀ 0 (g .told)
 
-    pub few : n ≤ 128
-    few = omega (arith, lines-fit (g .all), length-stack stack n, g .grid .wide-most, g .grid .high-most)
+    pub few : n ≤ stackSize
+    few = omega (arith, lines-fit (g .grid .wide-most) (g .grid .high-most) (g .all), length-stack stack n)
 
     pub run-stops : n ≤ 0 → Ended whole (Done entries lines) b report₀ report
     run-stops z =
@@ -81,7 +82,7 @@ module _ (w h : ℕ) (c : Card) (b₀ report₀ stack₀ : List ℕ) (n₀ : ℕ
       lines-top : Lines w h (l ∷ stackOf stack m)
       lines-top = rw top at (g .all)
 
-      pub run-ready : {memo column answer : List ℕ} → length answer ≡ len w h l → h ≤ length column → 4160 ≤ length memo → 128 ≤ length stack
+      pub run-ready : {memo column answer : List ℕ} → length answer ≡ len w h l → h ≤ length column → memoSize ≤ length memo → stackSize ≤ length stack
           → Ready w h c l b report entries memo column answer stack m
       run-ready x y z u =
           record {
@@ -138,7 +139,7 @@ module _ (w h : ℕ) (c : Card) (b₀ report₀ stack₀ : List ℕ) (n₀ : ℕ
         pub run-less : room b′ + n′ < room b + n
         run-less = omega (arith, measure, length-stack stack m, length-stack stack′ n′, ap length (s .stacks), ap room (s .board))
 
-        pub run-moves : Going b′ report′ entries′ stack′ n′ (lines + 1)
+        pub run-moves : Running b′ report′ entries′ stack′ n′ (lines + 1)
         run-moves =
             let k = fueled in
             record {

@@ -4,11 +4,12 @@ use mathlib.Core.List.{List, []}
 use Prim.Native.Nat.{ℕ, _+_, _≤_}
 use native.Mathlib.Omega.{arith}
 use lib.ListN.{length}
-use Rattle.rules.specs.Answer.{Proper}
+use Rattle.rules.specs.Answer.{Proper, Within}
 use Rattle.rules.specs.Card.{Card, clueOf, Straight, solveStraight}
 use Rattle.rules.specs.Run.{room, Outcome, run, fullRun, pointRun, boardOf, reportOf, Runs}
 use Rattle.rules.specs.declared.LinePosition.{LinePosition}
 use Rattle.rules.proofs.Cards.{straight-proper, straight-right}
+use Rattle.rules.proofs.Leavings.{Filled, Halts, runs-within, runs-filled, runs-halt}
 use Rattle.rules.proofs.Runs.{full-runs, point-runs, full-spent, point-spent}
 use Rattle.stack.specs.Stack.{stackOf, Lines}
 use Rattle.stack.proofs.Onces.{lines-point, lines-full}
@@ -16,8 +17,8 @@ use Rattle.card.proofs.Clued.{clue-legal}
 use Rattle.run.specs.declared.Start.{Start}
 use Rattle.run.specs.declared.Start.the-variants.{Full, Point}
 use Rattle.run.specs.declared.RunAnswer.{RunAnswer}
-use Rattle.run.specs.Ends.{endOf}
-use Rattle.run.specs.Steps.{InGrid, startCount, startStack, Begins, Ended, Judged}
+use Rattle.run.specs.Ends.{endOf, startStack, startCount}
+use Rattle.run.specs.Steps.{InGrid, Begins, Ended, Judged}
 use Rattle.grid.proofs.Rows.{sized}
 
 start-lines : (w h : ℕ) (s : Start) → InGrid w h s → Lines w h (startStack w h s)
@@ -53,6 +54,22 @@ module _ {w h : ℕ} {s : Start} {c : Card} {b report memo stack : List ℕ} (j 
       go (Point x y) i =
           point-runs w h proper (j .grid .wide) (j .grid .high) (solveStraight w h (clueOf c))
           (straight-right w h (clueOf c) (clue-legal (j .right))) (x .0) (y .0) b (i .0) (i .1) (sized (j .grid))
+
+  -- it leaves a board within the start, with no cell emptied; where it is refused, no placement of the refusing line agrees with that board
+  pub left-within : Within (boardOf (endOf w h s c b)) b
+  left-within =
+      runs-within w h proper (j .grid .wide) (j .grid .high) (solveStraight w h (clueOf c)) (straight-right w h (clueOf c) (clue-legal (j .right)))
+      end-runs (sized (j .grid)) (start-lines w h s (j .inside) .on)
+
+  pub left-filled : Filled b → Filled (boardOf (endOf w h s c b))
+  left-filled =
+      runs-filled w h proper (j .grid .wide) (j .grid .high) (solveStraight w h (clueOf c)) (straight-right w h (clueOf c) (clue-legal (j .right)))
+      end-runs (sized (j .grid)) (start-lines w h s (j .inside) .on)
+
+  pub end-halts : Halts (Straight w h (clueOf c)) w h (endOf w h s c b)
+  end-halts =
+      runs-halt w h proper (j .grid .wide) (j .grid .high) (solveStraight w h (clueOf c)) (straight-right w h (clueOf c) (clue-legal (j .right)))
+      end-runs (sized (j .grid)) (start-lines w h s (j .inside) .on)
 
   -- every entry costs a colour
   pub spent : length (reportOf (endOf w h s c b)) + room (boardOf (endOf w h s c b)) ≤ room b

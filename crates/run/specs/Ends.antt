@@ -1,11 +1,11 @@
 -- Where a run begins, what its answer tells, and what the end of a run asks to be told.
 use mathlib.Core.List.{List}
 use mathlib.Core.Option.{Option, none, some}
-use Prim.Native.Nat.{ℕ}
+use Prim.Native.Nat.{ℕ, _+_}
 use lib.ListN.{length}
 use Rattle.rules.specs.Card.{Card, clueOf, solveStraight}
 use Rattle.rules.specs.Refusal.{refusalNumber}
-use Rattle.rules.specs.Run.{Outcome, done, refused, fullRun, pointRun}
+use Rattle.rules.specs.Run.{Outcome, done, refused, fullStack, pointStack, fullRun, pointRun}
 use Rattle.rules.specs.declared.LinePosition.{LinePosition}
 use Rattle.rules.specs.declared.Refusal.{Refusal}
 use Rattle.run.specs.declared.Start.{Start}
@@ -14,10 +14,10 @@ use Rattle.run.specs.declared.RunAnswer.{RunAnswer}
 use Rattle.run.specs.declared.RunAnswer.the-variants.{Done, Unsolvable, Refused}
 
 -- document 01's number of each answer
-abbrev pub answerNumber : RunAnswer → ℕ
-answerNumber (Done entries lines) = 0
-answerNumber (Unsolvable line entries lines) = 8
-answerNumber (Refused w) = refusalNumber w
+abbrev pub runAnswerNumber : RunAnswer → ℕ
+runAnswerNumber (Done entries lines) = 0
+runAnswerNumber (Unsolvable line entries lines) = 8
+runAnswerNumber (Refused w) = refusalNumber w
 
 -- what an answer tells: its number, the line that refused, the entries written to the report and the lines solved
 pub record Reply : Type 0 where
@@ -39,6 +39,23 @@ replyOf (Refused w) = refusal w
 abbrev pub replyTo : Outcome → Reply
 replyTo (done b r k) = record { number = 0; line = none; entries = length r; lines = k }
 replyTo (refused l b r k) = record { number = 8; line = some l; entries = length r; lines = k }
+
+-- the end that a reply tells, of a run that left this board and reported these cells
+abbrev pub endAt : Option LinePosition → List ℕ → List ℕ → ℕ → Outcome
+endAt none b r k = done b r k
+endAt (some l) b r k = refused l b r k
+
+abbrev pub endTold : Reply → List ℕ → List ℕ → Outcome
+endTold t b r = endAt (t .line) b r (t .lines)
+
+-- the lines that a run begins with, the first on top, and how many they are
+abbrev pub startStack : ℕ → ℕ → Start → List LinePosition
+startStack w h Full = fullStack w h
+startStack w h (Point x y) = pointStack (x .0) (y .0)
+
+abbrev pub startCount : ℕ → ℕ → Start → ℕ
+startCount w h Full = w + h
+startCount w h (Point x y) = 2
 
 -- the run of a card by the order rules
 abbrev pub endOf : ℕ → ℕ → Start → Card → List ℕ → Outcome

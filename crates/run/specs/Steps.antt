@@ -1,12 +1,12 @@
 -- What the private functions ask and tell. A reader of the public calls needs none of it.
 use mathlib.Core.Path.{_≡_}
 use mathlib.Core.List.{List}
-use Prim.Native.Nat.{ℕ, _+_, _≤_, _<_}
+use Prim.Native.Nat.{ℕ, _≤_, _<_}
 use lib.ListN.{length}
 use lib.Seq.{sets}
 use Rattle.rules.specs.Card.{Card}
-use Rattle.rules.specs.Run.{room, Outcome, boardOf, reportOf, fullStack, pointStack}
-use Rattle.rules.specs.declared.LinePosition.{LinePosition}
+use Rattle.rules.specs.Run.{room, Outcome, boardOf, reportOf}
+use Rattle.rules.specs.Refusal.{memoSize, stackSize}
 use Rattle.grid.specs.Grid.{Grid}
 use Rattle.stack.specs.Stack.{stackOf, Lines}
 use Rattle.card.specs.Steps.{RightCard}
@@ -24,8 +24,8 @@ pub record Begins (w h : ℕ) (c : Card) (b report memo column answer stack : Li
   pub lines : Lines w h (stackOf stack count)
   pub works : 64 ≤ length answer
   pub copy : h ≤ length column
-  pub memos : 4160 ≤ length memo
-  pub stacked : 128 ≤ length stack
+  pub memos : memoSize ≤ length memo
+  pub stacked : stackSize ≤ length stack
   pub reports : room b ≤ length report
 
 -- the answer, the grid and the report at a run's end
@@ -41,20 +41,11 @@ abbrev pub InGrid : ℕ → ℕ → Start → Type 0
 InGrid w h Full = Unit {0}
 InGrid w h (Point x y) = (x .0 < w) × (y .0 < h)
 
--- how many lines are on the stack, and which
-abbrev pub startCount : ℕ → ℕ → Start → ℕ
-startCount w h Full = w + h
-startCount w h (Point x y) = 2
-
-abbrev pub startStack : ℕ → ℕ → Start → List LinePosition
-startStack w h Full = fullStack w h
-startStack w h (Point x y) = pointStack (x .0) (y .0)
-
 -- what the rules leave
 pub record Judged (w h : ℕ) (s : Start) (c : Card) (b report memo stack : List ℕ) : Type 0 where
   pub grid : Grid w h b
   pub right : RightCard w h c
   pub inside : InGrid w h s
-  pub memos : 4160 ≤ length memo
-  pub stacked : 128 ≤ length stack
+  pub memos : memoSize ≤ length memo
+  pub stacked : stackSize ≤ length stack
   pub reports : room b ≤ length report

@@ -11,12 +11,12 @@ ghost use mathlib.Core.List.{[]};
 ghost use Prim.Native.Nat.{_+_, _≤_};
 ghost use lib.ListN.{length};
 ghost use Rattle.rules.specs.Board.{len};
-ghost use Rattle.rules.specs.Card.{clueOf, solveStraight};
+ghost use Rattle.rules.specs.Card.{clueOf, solveStraight, cardOf};
 ghost use Rattle.rules.specs.Run.{room, run};
+ghost use Rattle.rules.specs.Refusal.{stackSize};
 ghost use Rattle.stack.specs.Stack.{stackOf};
-ghost use Rattle.card.specs.Steps.{cardOf};
-ghost use Rattle.run.specs.Ends.{endOf};
-ghost use Rattle.run.specs.Steps.{InGrid, startCount, startStack, Begins, Ended, Judged};
+ghost use Rattle.run.specs.Ends.{endOf, startStack, startCount};
+ghost use Rattle.run.specs.Steps.{InGrid, Begins, Ended, Judged};
 
 fn len_of(width: usize, height: usize, line: LinePosition) -> usize
     ensures { λ r. ⌜ r ≡ len width height line ⌝ }
@@ -90,7 +90,7 @@ fn run_jobs<'a, 'b>(
 
 // Sets the stack up. Returns how many lines are on it.
 fn set_up(width: usize, height: usize, start: Start, stack: &mut [u32]) -> usize
-    requires { ⌜ (width ≤ 64) × (height ≤ 64) × InGrid width height start × (128 ≤ length (now stack)) ⌝ }
+    requires { ⌜ (width ≤ 64) × (height ≤ 64) × InGrid width height start × (stackSize ≤ length (now stack)) ⌝ }
     ensures { λ r. ⌜ (r ≡ startCount width height start) × (stackOf (now (stack .exit)) r ≡ startStack width height start) ⌝ }
 {
     match start {

@@ -7,7 +7,7 @@ use rules::Refusal;
 use rules::RowIndex;
 use rules::refusal_number;
 ghost use mathlib.Core.Path.{_≡_};
-ghost use Rattle.run.specs.Ends.{answerNumber};
+ghost use Rattle.run.specs.Ends.{runAnswerNumber};
 
 // Where a run begins: with all lines, or with the two lines through a point.
 pub enum Start {
@@ -32,7 +32,7 @@ pub enum RunAnswer {
 
 // Document 01's number of an answer.
 pub fn answer_number(answer: RunAnswer) -> u32
-    ensures { λ r. ⌜ r ≡ answerNumber answer ⌝ }
+    ensures { λ r. ⌜ r ≡ runAnswerNumber answer ⌝ }
 {
     match answer {
         RunAnswer::Done {

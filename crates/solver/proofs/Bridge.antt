@@ -16,7 +16,7 @@ use Rattle.rules.specs.Board.{tabulate}
 use Rattle.rules.proofs.Lists.{T-both, T-left, T-right}
 use Rattle.rules.proofs.Placements.{blank-end, piece-end}
 use Rattle.rules.proofs.Boards.{length-tabulate, getD-tabulate}
-use Rattle.filling.specs.Filling.{Line, gap, BlockAt, Shows, edge, AgreesTo, Solution}
+use Rattle.filling.specs.Filling.{Line, gapAfter, BlockAt, Shows, edge, AgreesTo, Solution}
 use Rattle.filling.specs.Filling.{blank as blankAt, block as blockAt}
 
 -- ---- agreeing, cell by cell
@@ -52,24 +52,24 @@ tabulate-same (suc n) c f h = ap₂ (λ (a : ℕ) (l : List ℕ). a ∷ l) (h 0 
 
 -- block b as its cells, with the blank that must follow it
 abbrev pub pieceAt : Line → ℕ → List ℕ
-pieceAt L b = replicate (L .size b) (L .colour b) ++ replicate (gap L b) 1
+pieceAt L b = replicate (L .size b) (L .colour b) ++ replicate (gapAfter L b) 1
 
 -- the pieces are those of the line's blocks
 pub record PiecesOf (L : Line) (ps : List (List ℕ)) : Type 0 where
   pub many : length ps ≡ L .count
   pub each : (b : ℕ) → b < L .count → getD ps b [] ≡ pieceAt L b
 
-length-piece : (L : Line) (b : ℕ) → length (pieceAt L b) ≡ L .size b + gap L b
+length-piece : (L : Line) (b : ℕ) → length (pieceAt L b) ≡ L .size b + gapAfter L b
 length-piece L b =
-    length-append (replicate (L .size b) (L .colour b)) (replicate (gap L b) 1)
-    ∙ ap₂ (λ (x y : ℕ). x + y) (length-replicate (L .size b) (L .colour b)) (length-replicate {A = ℕ} (gap L b) 1)
+    length-append (replicate (L .size b) (L .colour b)) (replicate (gapAfter L b) 1)
+    ∙ ap₂ (λ (x y : ℕ). x + y) (length-replicate (L .size b) (L .colour b)) (length-replicate {A = ℕ} (gapAfter L b) 1)
 
 module _ {L : Line} {ps : List (List ℕ)} (P : PiecesOf L ps) where
   -- what f shows of a block is its piece
   block-piece : {f : ℕ → ℕ} {b p q : ℕ} → BlockAt L f b p q → tabulate q f ≡ tabulate p f ++ pieceAt L b
   block-piece {f} {b} {p} {q} B =
       let n = L .size b in
-      let g = gap L b in
+      let g = gapAfter L b in
       let e : q ≡ p + (n + g) = omega (arith, B .ends) in
       ap (λ (k : ℕ). tabulate k f) e
       ∙ tabulate-add p (n + g) f
@@ -110,7 +110,7 @@ module _ {L : Line} {ps : List (List ℕ)} (P : PiecesOf L ps) where
       c = L .colour b
 
       g : ℕ
-      g = gap L b
+      g = gapAfter L b
 
       at : (i : ℕ) → p ≤ i → i < p + length (pieceAt L b) → f i ≡ getD (pieceAt L b) (i - p) 0
       at i u v =

@@ -11,7 +11,7 @@ use lib.ListN.{length, getD, set, length-set, List·getD-eq-default}
 use lib.Seq.{sets, length-sets, getD-set-same, getD-set-other}
 use Rattle.rules.proofs.Tests.{below?}
 use Rattle.loops.proofs.Stores.{sets-before, sets-at}
-use Rattle.filling.specs.Filling.{Line, held, trails, gap, taken, space}
+use Rattle.filling.specs.Filling.{Line, held, trails, gapAfter, taken, space}
 use Rattle.solver.specs.Steps.{Holdable, Holds, KeptBut}
 
 -- ---- the blocks
@@ -29,8 +29,8 @@ module _ {n : ℕ} {sizes colours xs : List ℕ} (H : Holdable n sizes colours x
   abbrev measured : List ℕ
   measured = set begun 258 n
 
-  abbrev pub written : List ℕ
-  written = set measured 259 (length sizes)
+  abbrev pub completed : List ℕ
+  completed = set measured 259 (length sizes)
 
   copied-long : length copied ≡ length xs
   copied-long = length-sets (sets xs 64 sizes) 128 colours ∙ length-sets xs 64 sizes
@@ -42,20 +42,20 @@ module _ {n : ℕ} {sizes colours xs : List ℕ} (H : Holdable n sizes colours x
   measured-long = length-set begun 258 n ∙ begun-long
 
   -- the places that the last stores do not touch
-  front : (j : ℕ) → j < 193 → getD written j 0 ≡ getD closed j 0
+  front : (j : ℕ) → j < 193 → getD completed j 0 ≡ getD closed j 0
   front j h =
       getD-set-other measured 259 j (length sizes) 0 (λ e. omega arith) ∙ getD-set-other begun 258 j n 0 (λ e. omega arith)
       ∙ getD-set-other closed 193 j 0 0 (λ e. omega arith)
 
-  peel : (j : ℕ) → j ≢ 128 + length colours → j < 193 → getD written j 0 ≡ getD copied j 0
+  peel : (j : ℕ) → j ≢ 128 + length colours → j < 193 → getD completed j 0 ≡ getD copied j 0
   peel j u v = front j v ∙ getD-set-other copied (128 + length colours) j 0 0 u
 
-  ended : getD written (128 + length colours) 0 ≡ 0
+  ended : getD completed (128 + length colours) 0 ≡ 0
   ended =
       front (128 + length colours) (omega (arith, H .few, H .paired))
       ∙ getD-set-same copied (128 + length colours) 0 0 (omega (arith, copied-long, H .few, H .paired, H .long))
 
-  pub holds : Holds xs n sizes colours written
+  pub holds : Holds xs n sizes colours completed
   holds = record {
     long = length-set measured 259 (length sizes) ∙ measured-long;
     cells = getD-set-other measured 259 258 (length sizes) 0 (λ e. omega arith) ∙ getD-set-same begun 258 n 0 (omega (arith, begun-long, H .long));
@@ -70,7 +70,7 @@ module _ {n : ℕ} {sizes colours xs : List ℕ} (H : Holdable n sizes colours x
         (λ l. peel (128 + b) (λ e. omega arith) (omega (arith, H .few))
         ∙ sets-at colours (sets xs 64 sizes) 128 b 0 l (omega (arith, H .few, H .paired, H .long, length-sets xs 64 sizes)))
         (λ l. let e : b ≡ length colours = omega (arith, H .paired) in
-        ap (λ k. getD written (128 + k) 0) e ∙ ended ∙ sym (List·getD-eq-default colours 0 {n = b} l));
+        ap (λ k. getD completed (128 + k) 0) e ∙ ended ∙ sym (List·getD-eq-default colours 0 {n = b} l));
     no-sum =
         getD-set-other measured 259 193 (length sizes) 0 (λ e. omega arith) ∙ getD-set-other begun 258 193 n 0 (λ e. omega arith)
         ∙ getD-set-same closed 193 0 0 (omega (arith, length-set closed 193 0, begun-long, H .long));
@@ -83,7 +83,7 @@ cond-le true = omega arith
 cond-le false = omega arith
 
 module _ (L : Line) where
-  pub taken-more : (b : ℕ) → taken L (b + 1) ≡ taken L b + L .size b + gap L b
+  pub taken-more : (b : ℕ) → taken L (b + 1) ≡ taken L b + L .size b + gapAfter L b
   taken-more b = ap (taken L) (add-one b)
 
   pub space-more : (b : ℕ) → space L (b + 1) ≡ taken L b + L .size b

@@ -7,6 +7,7 @@ use Prim.Native.Nat.{ℕ, _-_, _≤_, _<_}
 use lib.ListN.{length, getD, take, replicate}
 use Rattle.rules.specs.Block.{Block, blocks, illegal}
 use Rattle.rules.specs.Binary.{lineAnswer}
+use Rattle.rules.specs.Refusal.{memoSize}
 use Rattle.filling.specs.Filling.{held, space}
 
 -- ---- the array that holds a line
@@ -62,7 +63,7 @@ pub record Solvable (n : ℕ) (sizes colours xs memo work : List ℕ) : Type 0 w
   pub some : 1 ≤ n
   pub fits : Holdable n sizes colours xs
   pub legal : illegal (blocks sizes colours) ≡ false
-  pub room : 4160 ≤ length memo
+  pub room : memoSize ≤ length memo
   pub clean : work ≡ replicate 64 0
 
 -- r and the first n numbers of `work` tell the answer of the line whose cells are the first n of xs

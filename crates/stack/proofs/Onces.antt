@@ -1,4 +1,4 @@
--- Each line stands once on the stack, so the stack never has more than width + height lines.
+-- Each line stands once on the stack, so the stack never has more than width + height lines, for which there is room.
 use mathlib.Core.Path.{_≡_, refl, sym, ap, _∙_, subst}
 use mathlib.Core.Bool.{Bool, true, false, cond}
 use mathlib.Core.Logic.{_⊎_, inl, inr, ⊎-elim, _≢_}
@@ -10,9 +10,10 @@ use lib.ListN.{length}
 use Rattle.rules.specs.declared.LinePosition.{LinePosition}
 use Rattle.rules.specs.declared.LinePosition.the-variants.{Row, Column}
 use Rattle.rules.specs.Board.{row, column, len, On, cross}
+use Rattle.rules.specs.Refusal.{stackSize}
 use Rattle.rules.specs.Run.{sameLine, remove, pushAll, upFrom, distance, insert, sorted, fullStack, pointStack}
 use Rattle.rules.proofs.Lists.{map-mem}
-use Rattle.rules.proofs.Stacks.{line-cases, remove-mem, mem-remove, length-remove, pushAll-mem, insert-mem, sorted-mem, fullStack-on, on-fullStack, length-fullStack}
+use Rattle.rules.proofs.Stacks.{indexOf, line-cases, remove-mem, mem-remove, length-remove, pushAll-mem, insert-mem, sorted-mem, fullStack-on, on-fullStack, length-fullStack}
 use Rattle.rules.proofs.Runs.{cross-on}
 use Rattle.stack.specs.Stack.{Once, no-lines, one-more, Lines}
 
@@ -33,14 +34,14 @@ once-first (one-more n o) = n
 -- ---- after a push
 
 -- two lines are the same and their test says so, or they are not and it says that
-abbrev Case : LinePosition → LinePosition → Type 0
-Case l x = ((l ≡ x) × (sameLine l x ≡ true)) ⊎ ((l ≢ x) × (sameLine l x ≡ false))
+abbrev SameOrNot : LinePosition → LinePosition → Type 0
+SameOrNot l x = ((l ≡ x) × (sameLine l x ≡ true)) ⊎ ((l ≢ x) × (sameLine l x ≡ false))
 
 remove-not : (l : LinePosition) (st : List LinePosition) → List·Memᴰ l (remove l st) → ⊥
 remove-not l [] m = List·Memᴰ·not-nil m
 remove-not l (x ∷ st) m = go (line-cases l x) m (remove-not l st)
   where
-    go : Case l x → List·Memᴰ l (cond (sameLine l x) (remove l st) (x ∷ remove l st)) → (List·Memᴰ l (remove l st) → ⊥) → ⊥
+    go : SameOrNot l x → List·Memᴰ l (cond (sameLine l x) (remove l st) (x ∷ remove l st)) → (List·Memᴰ l (remove l st) → ⊥) → ⊥
     go (inl p) n up = up (rw (p .1) at n)
     go (inr p) n up = ⊎-elim (p .0) up (List·Memᴰ·cases-cons (rw (p .1) at n))
 
@@ -62,7 +63,7 @@ shorter : (l : LinePosition) (st : List LinePosition) → List·Memᴰ l st → 
 shorter l [] m = absurd (List·Memᴰ·not-nil m)
 shorter l (x ∷ st) m = go (line-cases l x) (List·Memᴰ·cases-cons m) (shorter l st)
   where
-    go : Case l x → (l ≡ x) ⊎ List·Memᴰ l st → (List·Memᴰ l st → length (remove l st) < length st)
+    go : SameOrNot l x → (l ≡ x) ⊎ List·Memᴰ l st → (List·Memᴰ l st → length (remove l st) < length st)
         → length (cond (sameLine l x) (remove l st) (x ∷ remove l st)) < suc (length st)
     go (inl p) q up = rw (p .1) (omega (arith, length-remove l st))
     go (inr p) (inl e) up = absurd (p .0 e)
@@ -80,8 +81,12 @@ pigeon (l ∷ st) all o f =
 
 module _ {w h : ℕ} where
   -- a stack has no more lines than the board
-  pub lines-fit : {st : List LinePosition} → Lines w h st → length st ≤ w + h
-  lines-fit {st} v = omega (arith, pigeon st (fullStack w h) (v .once) (λ k m. on-fullStack w h k (v .on k m)), length-fullStack w h)
+  pub lines-few : {st : List LinePosition} → Lines w h st → length st ≤ w + h
+  lines-few {st} v = omega (arith, pigeon st (fullStack w h) (v .once) (λ k m. on-fullStack w h k (v .on k m)), length-fullStack w h)
+
+  -- so the stack that document 01 asks for has room for every line once
+  pub lines-fit : w ≤ 64 → h ≤ 64 → {st : List LinePosition} → Lines w h st → length st ≤ stackSize
+  lines-fit wide high v = omega (arith, lines-few v)
 
   -- a line was taken: what is left
   pub lines-rest : {l : LinePosition} {st : List LinePosition} → Lines w h (l ∷ st) → Lines w h st
@@ -105,7 +110,7 @@ module _ {w h : ℕ} where
 
   pub lines-space : {l : LinePosition} {st : List LinePosition} → Lines w h (l ∷ st) → (js : List ℕ) → ((j : ℕ) → List·Memᴰ j js → j < len w h l)
       → length (pushAll l js st) < w + h
-  lines-space v js small = lines-fit (lines-push v js small)
+  lines-space v js small = lines-few (lines-push v js small)
 
   -- the two lines through a point
   pub lines-point : (x y : ℕ) → x < w → y < h → Lines w h (pointStack x y)
@@ -130,16 +135,16 @@ once-sorted w h no-lines = no-lines
 once-sorted w h (one-more {l = l} {st = st} n o) = once-insert w h l (λ u. n (sorted-mem w h st u)) (once-sorted w h o)
 
 -- no line stands in both lists
-abbrev Apart : List LinePosition → List LinePosition → Type 0
-Apart a b = (l : LinePosition) → List·Memᴰ l a → List·Memᴰ l b → ⊥
+abbrev Disjoint : List LinePosition → List LinePosition → Type 0
+Disjoint a b = (l : LinePosition) → List·Memᴰ l a → List·Memᴰ l b → ⊥
 
-once-onto : {a b : List LinePosition} → Once a → Once b → Apart a b → Once (reverseAux a b)
+once-onto : {a b : List LinePosition} → Once a → Once b → Disjoint a b → Once (reverseAux a b)
 once-onto no-lines p d = p
 once-onto {b = b} (one-more {l = l} {st = st} n o) p d =
     once-onto o (one-more (d l (List·Memᴰ·head refl)) p)
     (λ k u v. ⊎-elim (λ (e : k ≡ l). n (subst (λ (t : LinePosition). List·Memᴰ t st) e u)) (λ z. d k (List·Memᴰ·tail u) z) (List·Memᴰ·cases-cons v))
 
-once-append : {a b : List LinePosition} → Once a → Once b → Apart a b → Once (a ++ b)
+once-append : {a b : List LinePosition} → Once a → Once b → Disjoint a b → Once (a ++ b)
 once-append no-lines p d = p
 once-append {b = b} (one-more {l = l} {st = st} n o) p d =
     one-more (λ u. ⊎-elim n (d l (List·Memᴰ·head refl)) (List·Memᴰ·append-cases st u)) (once-append o p (λ k u v. d k (List·Memᴰ·tail u) v))
@@ -154,11 +159,6 @@ once-map f inj m (suc n) =
     one-more {l = f m} {st = map f (upFrom (suc m) n)}
     (λ u. let r = map-mem f (upFrom (suc m) n) u in omega (arith, upFrom-low (suc m) n (r .0) (r .1), inj m (r .0) (r .2)))
     (once-map f inj (suc m) n)
-
--- the number of a row or of a column
-abbrev indexOf : LinePosition → ℕ
-indexOf (Row y) = y .0
-indexOf (Column x) = x .0
 
 row-inj : (i j : ℕ) → row i ≡ row j → i ≡ j
 row-inj i j e = ap indexOf e
@@ -175,7 +175,11 @@ lines-full w h = record {
       (λ l u v. List·Memᴰ·not-nil v);
 }
   where
-    apart : Apart (map column (upFrom 0 w)) (map row (upFrom 0 h))
+    apart : Disjoint (map column (upFrom 0 w)) (map row (upFrom 0 h))
     apart l u v =
         let a = map-mem column (upFrom 0 w) u in
         let b = map-mem row (upFrom 0 h) v in other-way (a .0) (b .0) (sym (b .2) ∙ a .2)
+
+-- and a full run on the largest board needs all of it
+pub lines-need : length (fullStack 64 64) ≡ stackSize
+lines-need = length-fullStack 64 64

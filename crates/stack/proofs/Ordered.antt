@@ -17,6 +17,7 @@ use Rattle.rules.specs.Run.{upFrom, allLines, distance, sorted, fullStack}
 use Rattle.rules.proofs.Lists.{map-mem}
 use Rattle.rules.proofs.Stacks.{upFrom-mem, length-fullStack}
 use Rattle.rules.proofs.Tests.{Compared, eqb-cases, below?}
+use Rattle.rules.specs.Refusal.{stackSize}
 use Rattle.loops.specs.Put.{Put}
 use Rattle.loops.proofs.Going.{Going, going-start, going-puts, going-done}
 use Rattle.stack.specs.Stack.{lineOfCode, stackOf}
@@ -210,7 +211,7 @@ module _ {w h : ℕ} {s₀ s : List ℕ} {n d : ℕ} (v : Laying w h s₀ s n d)
     pub lay-more : {s₁ s₂ : List ℕ} {n₁ n₂ : ℕ} → Put s n (around 0 w d) n₁ s₁ → Put s₁ n₁ (around 64 h d) n₂ s₂ → Laying w h s₀ s₂ n₂ (d + 1)
     lay-more p q = record { upto = omega arith; going = going-puts (after-columns p) refl q }
 
-    module _ (wide : w ≤ 64) (high : h ≤ 64) (room : 128 ≤ length s₀) where
+    module _ (wide : w ≤ 64) (high : h ≤ 64) (room : stackSize ≤ length s₀) where
       -- there is room for the columns, and then for the rows
       pub lay-columns : n + length (around 0 w d) ≤ length s
       lay-columns = omega (
@@ -231,7 +232,7 @@ module _ {w h : ℕ} {s₀ s : List ℕ} {n d : ℕ} (v : Laying w h s₀ s n d)
         codes-length w h wide high,
       )
 
-  pub lay-done : 33 ≤ d → w ≤ 64 → h ≤ 64 → 128 ≤ length s₀ → (n ≡ w + h) × (stackOf s n ≡ fullStack w h)
+  pub lay-done : 33 ≤ d → w ≤ 64 → h ≤ 64 → stackSize ≤ length s₀ → (n ≡ w + h) × (stackOf s n ≡ fullStack w h)
   unfolding fullStack
   lay-done last wide high room =
       let p = going-done (v .going) (codes-end w h d last) in

@@ -16,7 +16,7 @@ use Rattle.rules.specs.Board.{cross}
 use Rattle.rules.specs.Run.{sameLine, remove, pushAll, changed}
 use Rattle.rules.proofs.Stacks.{remove-past, changed-in}
 use Rattle.stack.specs.Stack.{lineOfCode, stackOf, Pushable}
-use Rattle.stack.specs.Steps.{Paired, crosses, without}
+use Rattle.stack.specs.Steps.{Comparable, crosses, without}
 use Rattle.stack.proofs.Coded.{same-code, code-row, code-column, length-stack, stack-put}
 
 -- ---- pushing them one by one is dropping them all, and then putting them on top
@@ -37,21 +37,21 @@ remove-without l j js (m ∷ st) = go (sameLine (cross l j) m) refl (crosses l j
     go false e false up = rw e (ap (λ (t : List LinePosition). m ∷ t) up)
 
 -- the lines that the indexes push, and below them the others
-abbrev Apart : (l : LinePosition) (js : List ℕ) (st : List LinePosition) → Type 0
-Apart l js st = pushAll l js st ≡ map (cross l) js ++ without l js st
+abbrev PushedOn : (l : LinePosition) (js : List ℕ) (st : List LinePosition) → Type 0
+PushedOn l js st = pushAll l js st ≡ map (cross l) js ++ without l js st
 
-apart-one : (l : LinePosition) (j : ℕ) (js : List ℕ) (st : List LinePosition) → (List·Memᴰ j js → ⊥) → Apart l js st → Apart l (j ∷ js) st
+apart-one : (l : LinePosition) (j : ℕ) (js : List ℕ) (st : List LinePosition) → (List·Memᴰ j js → ⊥) → PushedOn l js st → PushedOn l (j ∷ js) st
 apart-one l j js st d up =
     ap (λ (t : List LinePosition). cross l j ∷ t)
     (ap (remove (cross l j)) up ∙ remove-past l j js (without l js st) d
     ∙ ap (λ (t : List LinePosition). map (cross l) js ++ t) (remove-without l j js st))
 
-apart : (l : LinePosition) (j : ℕ) (c m : List ℕ) (st : List LinePosition) → Apart l (changed j c m) st
+apart : (l : LinePosition) (j : ℕ) (c m : List ℕ) (st : List LinePosition) → PushedOn l (changed j c m) st
 apart l j [] m st = sym (without-none l st)
 apart l j (a ∷ c) [] st = sym (without-none l st)
 apart l j (a ∷ c) (b ∷ m) st = go (eqb a b) (apart l (suc j) c m st)
   where
-    go : (t : Bool) → Apart l (changed (suc j) c m) st → Apart l (cond t (changed (suc j) c m) (j ∷ changed (suc j) c m)) st
+    go : (t : Bool) → PushedOn l (changed (suc j) c m) st → PushedOn l (cond t (changed (suc j) c m) (j ∷ changed (suc j) c m)) st
     go true up = up
     go false up = apart-one l j (changed (suc j) c m) st (λ u. omega (arith, changed-in (suc j) j c m u)) up
 
@@ -93,7 +93,7 @@ module _ (l : LinePosition) (f : ℕ) (e : lineOfCode f ≡ cross l 0) where
       go true up = up
       go false up = rw (test-cross j x (omega arith), ne-eqb (f + j) x (omega arith)) up
 
-  module _ {before answer : List ℕ} (p : Paired before answer) (x : ℕ) where
+  module _ {before answer : List ℕ} (p : Comparable before answer) (x : ℕ) where
     pub crosses-not : ((j : ℕ) → j < length answer → f + j ≢ x) → crosses l (changed 0 before answer) (lineOfCode x) ≡ false
     crosses-not d =
         none-crosses (changed 0 before answer) x
@@ -142,28 +142,28 @@ module _ {l : LinePosition} {js s₀ s : List ℕ} {i k : ℕ} (v : Packing l js
 
 -- ---- they are put on top
 
-module _ {before answer : List ℕ} (p : Paired before answer) where
+module _ {before answer : List ℕ} (p : Comparable before answer) where
   -- the changed indexes from j on
-  abbrev left : ℕ → List ℕ
-  left j = changed j (drop j before) (drop j answer)
+  abbrev toPush : ℕ → List ℕ
+  toPush j = changed j (drop j before) (drop j answer)
 
   left-cons : (j : ℕ) → j < length answer
-      → left j ≡ cond (eqb (getD before j 0) (getD answer j 0)) (left (suc j)) (j ∷ left (suc j))
+      → toPush j ≡ cond (eqb (getD before j 0) (getD answer j 0)) (toPush (suc j)) (j ∷ toPush (suc j))
   left-cons j h = rw (drop-cons before j 0 (omega (arith, p .long)), drop-cons answer j 0 h)
 
-  left-same : (j : ℕ) → j < length answer → getD before j 0 ≡ getD answer j 0 → left j ≡ left (suc j)
+  left-same : (j : ℕ) → j < length answer → getD before j 0 ≡ getD answer j 0 → toPush j ≡ toPush (suc j)
   left-same j h q = left-cons j h ∙ rw (eq-eqb (getD before j 0) (getD answer j 0) q)
 
-  left-more : (j : ℕ) → j < length answer → getD before j 0 ≢ getD answer j 0 → left j ≡ j ∷ left (suc j)
+  left-more : (j : ℕ) → j < length answer → getD before j 0 ≢ getD answer j 0 → toPush j ≡ j ∷ toPush (suc j)
   left-more j h q = left-cons j h ∙ rw (ne-eqb (getD before j 0) (getD answer j 0) q)
 
   -- they are no more than all of them
-  left-fewer : (j : ℕ) → j ≤ length answer → length (left j) ≤ length (changed 0 before answer)
+  left-fewer : (j : ℕ) → j ≤ length answer → length (toPush j) ≤ length (changed 0 before answer)
   left-fewer zero h = omega arith
   left-fewer (suc j) h = go (eqb (getD before j 0) (getD answer j 0)) (left-cons j h) (left-fewer j (omega arith))
     where
-      go : (t : Bool) → left j ≡ cond t (left (suc j)) (j ∷ left (suc j)) → length (left j) ≤ length (changed 0 before answer)
-          → length (left (suc j)) ≤ length (changed 0 before answer)
+      go : (t : Bool) → toPush j ≡ cond t (toPush (suc j)) (j ∷ toPush (suc j)) → length (toPush j) ≤ length (changed 0 before answer)
+          → length (toPush (suc j)) ≤ length (changed 0 before answer)
       go true e up = omega (arith, ap length e)
       go false e up = omega (arith, ap length e)
 
@@ -173,7 +173,7 @@ pub record Topping (before answer stack₀ : List ℕ) (n₀ : ℕ) (l : LinePos
   pub long : length stack ≡ length stack₀
   pub is : stackOf stack n ≡ map (cross l) (changed j (drop j before) (drop j answer)) ++ stackOf stack₀ n₀
 
-module _ {before answer : List ℕ} (p : Paired before answer) where
+module _ {before answer : List ℕ} (p : Comparable before answer) where
   pub top-none : (stack₀ : List ℕ) (n₀ : ℕ) (l : LinePosition) → Topping before answer stack₀ n₀ l stack₀ n₀ (length answer)
   top-none stack₀ n₀ l = record { upto = omega arith; long = refl; is = rw (← (p .long), drop-length before) }
 
@@ -183,8 +183,8 @@ module _ {before answer : List ℕ} (p : Paired before answer) where
 
     -- the index below: nothing changed there, or its crossing line is put on top
     module _ (more : 0 < j) where
-      below : stackOf stack n ≡ map (cross l) (left p (suc (j - 1))) ++ stackOf stack₀ n₀
-      below = let e : j ≡ suc (j - 1) = omega arith in v .is ∙ ap (λ (i : ℕ). map (cross l) (left p i) ++ stackOf stack₀ n₀) e
+      below : stackOf stack n ≡ map (cross l) (toPush p (suc (j - 1))) ++ stackOf stack₀ n₀
+      below = let e : j ≡ suc (j - 1) = omega arith in v .is ∙ ap (λ (i : ℕ). map (cross l) (toPush p i) ++ stackOf stack₀ n₀) e
 
       pub top-same : getD before (j - 1) 0 ≡ getD answer (j - 1) 0 → Topping before answer stack₀ n₀ l stack n (j - 1)
       top-same q = record {
@@ -203,8 +203,8 @@ module _ {before answer : List ℕ} (p : Paired before answer) where
           length-stack stack n,
           length-stack stack₀ n₀,
           ap length below,
-          length-append (map (cross l) (left p (suc (j - 1)))) (stackOf stack₀ n₀),
-          length-map (left p (suc (j - 1))) (cross l),
+          length-append (map (cross l) (toPush p (suc (j - 1)))) (stackOf stack₀ n₀),
+          length-map (toPush p (suc (j - 1))) (cross l),
           ap length (left-more p (j - 1) (omega (arith, v .upto)) d),
           left-fewer p (j - 1) (omega (arith, v .upto)),
         )
@@ -221,7 +221,7 @@ module _ {before answer : List ℕ} (p : Paired before answer) where
 -- ---- both
 
 module _ {before answer stack : List ℕ} {count : ℕ} {l : LinePosition} (p : Pushable before answer l stack count) where
-  pub pushed-pair : Paired before answer
+  pub pushed-pair : Comparable before answer
   pushed-pair = record { long = p .long; short = p .short }
 
   pub pushed-count : count ≤ length stack

@@ -23,7 +23,7 @@ codesFrom w h d zero = []
 codesFrom w h d (suc k) = around 0 w d ++ (around 64 h d ++ codesFrom w h (suc d) k)
 
 -- the answer has as many cells as the line had, few enough
-pub record Paired (before answer : List ℕ) : Type 0 where
+pub record Comparable (before answer : List ℕ) : Type 0 where
   pub long : length before ≡ length answer
   pub short : length answer ≤ 64
 

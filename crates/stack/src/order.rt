@@ -7,6 +7,7 @@ ghost use mathlib.Core.Path.{_≡_};
 ghost use Prim.Native.Nat.{_+_, _<_, _≤_};
 ghost use lib.ListN.{length};
 ghost use Rattle.rules.specs.Run.{fullStack, pointStack};
+ghost use Rattle.rules.specs.Refusal.{stackSize};
 ghost use Rattle.loops.specs.Put.{Put};
 ghost use Rattle.stack.specs.Stack.{stackOf};
 ghost use Rattle.stack.specs.Steps.{codeAt, around};
@@ -41,7 +42,7 @@ fn append_around(sides: usize, base: u32, distance: usize, stack: &mut [u32], co
 
 // All lines, the middle ones first; none is farther than 32. A run takes from the end, so the farthest are on top.
 pub fn full_order(width: usize, height: usize, stack: &mut [u32]) -> usize
-    requires { ⌜ (width ≤ 64) × (height ≤ 64) × (128 ≤ length (now stack)) ⌝ }
+    requires { ⌜ (width ≤ 64) × (height ≤ 64) × (stackSize ≤ length (now stack)) ⌝ }
     ensures { λ r. ⌜ (r ≡ width + height) × (stackOf (now (stack .exit)) r ≡ fullStack width height) ⌝ }
 {
     let mut count = 0;
@@ -56,7 +57,7 @@ pub fn full_order(width: usize, height: usize, stack: &mut [u32]) -> usize
 
 // Column x, and row y on top.
 pub fn point_order(x: ColumnIndex, y: RowIndex, stack: &mut [u32]) -> usize
-    requires { ⌜ (x .0 < 64) × (y .0 < 64) × (128 ≤ length (now stack)) ⌝ }
+    requires { ⌜ (x .0 < 64) × (y .0 < 64) × (stackSize ≤ length (now stack)) ⌝ }
     ensures { λ r. ⌜ (r ≡ 2) × (stackOf (now (stack .exit)) r ≡ pointStack (x .0) (y .0)) ⌝ }
 {
     stack[0] = code_of(LinePosition::Column(x));

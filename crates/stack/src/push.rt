@@ -9,11 +9,11 @@ ghost use lib.ListN.{length};
 ghost use Rattle.rules.specs.Board.{cross};
 ghost use Rattle.rules.specs.Run.{pushAll, changed};
 ghost use Rattle.stack.specs.Stack.{lineOfCode, stackOf, Pushable};
-ghost use Rattle.stack.specs.Steps.{Paired, crosses, without};
+ghost use Rattle.stack.specs.Steps.{Comparable, crosses, without};
 
 // Is this the code of a line that crosses at a changed index? The crossing lines have the codes from that of index 0 on.
 fn crosses_change(before: &[u32], answer: &[u32], line: LinePosition, code: u32) -> bool
-    requires { ⌜ Paired (now before) (now answer) ⌝ }
+    requires { ⌜ Comparable (now before) (now answer) ⌝ }
     ensures { λ r. ⌜ r ≡ crosses line (changed 0 (now (before .entry)) (now («answer» .entry))) (lineOfCode code) ⌝ }
 {
     let first = code_of(crossing(line, 0));
@@ -35,7 +35,7 @@ fn drop_changed(
     stack: &mut [u32],
     count: usize,
 ) -> usize
-    requires { ⌜ Paired (now before) (now answer) × (count ≤ length (now stack)) ⌝ }
+    requires { ⌜ Comparable (now before) (now answer) × (count ≤ length (now stack)) ⌝ }
     ensures { λ r. ⌜ stackOf (now (stack .exit)) r ≡ without line (changed 0 (now (before .entry)) (now («answer» .entry))) (stackOf (now (stack .entry)) count) ⌝ }
 {
     let mut kept = 0;
@@ -59,7 +59,7 @@ fn append_changed(
     stack: &mut [u32],
     count: usize,
 ) -> usize
-    requires { ⌜ Paired (now before) (now answer) × (length (changed 0 (now before) (now answer)) + count ≤ length (now stack)) ⌝ }
+    requires { ⌜ Comparable (now before) (now answer) × (length (changed 0 (now before) (now answer)) + count ≤ length (now stack)) ⌝ }
     ensures { λ r. ⌜ stackOf (now (stack .exit)) r ≡ map (cross line) (changed 0 (now (before .entry)) (now («answer» .entry))) ++ stackOf (now (stack .entry)) count ⌝ }
 {
     let mut total = count;

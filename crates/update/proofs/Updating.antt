@@ -19,7 +19,7 @@ use Rattle.rules.proofs.Boards.{length-line}
 use Rattle.rules.proofs.Blocks.{length-blocks, legal-test}
 use Rattle.rules.proofs.Cards.{straight-proper, straight-right}
 use Rattle.rules.proofs.Runs.{room-step}
-use Rattle.line.specs.Steps.{Ready as Solvable}
+use Rattle.line.specs.Steps.{JudgedLine}
 use Rattle.solver.specs.Steps.{outcome}
 use Rattle.grid.specs.Grid.{Grid, changes, Storable, Stored}
 use Rattle.grid.proofs.Rows.{sized}
@@ -29,7 +29,7 @@ use Rattle.stack.proofs.Onces.{lines-space}
 use Rattle.card.specs.Steps.{Counts}
 use Rattle.card.proofs.Clued.{sizesAt, coloursAt, clue-is, clue-pairs, clue-few, clue-legal}
 use Rattle.update.specs.declared.Attempt.{Attempt}
-use Rattle.update.specs.Steps.{Roomy, Tried, Attempted, Ready, Refuses, Moves}
+use Rattle.update.specs.Steps.{Roomy, Triable, Attempted, Ready, Refuses, Moves}
 
 len-some : {w h : ℕ} {b : List ℕ} → Grid w h b → (l : LinePosition) → 0 < len w h l
 len-some g (Row y) = g .wide
@@ -38,8 +38,8 @@ len-some g (Column x) = g .high
 -- ---- solving a line's cells
 
 pub solvable : {w h : ℕ} {l : LinePosition} {b sizes colours memo column answer stack : List ℕ} {count : ℕ}
-    → Tried w h l b sizes colours memo column answer stack count → (cells : List ℕ) → cells ≡ lineOf w h b l
-    → Solvable cells (coloured sizes colours) memo answer
+    → Triable w h l b sizes colours memo column answer stack count → (cells : List ℕ) → cells ≡ lineOf w h b l
+    → JudgedLine cells (coloured sizes colours) memo answer
 solvable {w} {h} {l} {b} {sizes} {colours} t cells e =
     let n : length cells ≡ len w h l = ap length e ∙ length-line w h b l in
     record {
@@ -54,13 +54,13 @@ solvable {w} {h} {l} {b} {sizes} {colours} t cells e =
 
 -- the room for its crossing lines, by the number of its cells
 pub roomy-cells : {w h : ℕ} {l : LinePosition} {b sizes colours memo column answer stack : List ℕ} {count : ℕ}
-    → Tried w h l b sizes colours memo column answer stack count → (cells : List ℕ) → cells ≡ lineOf w h b l → Roomy (length cells) l stack count
+    → Triable w h l b sizes colours memo column answer stack count → (cells : List ℕ) → cells ≡ lineOf w h b l → Roomy (length cells) l stack count
 roomy-cells {w} {h} {l} {b} t cells e =
     let n : length cells ≡ len w h l = ap length e ∙ length-line w h b l in
     rw n (t .roomy)
 
 pub pushable : (sizes colours : List ℕ) {cells answer answer′ memo stack : List ℕ} {l : LinePosition} {count : ℕ}
-    → Solvable cells (coloured sizes colours) memo answer → Roomy (length cells) l stack count → length answer′ ≡ length answer
+    → JudgedLine cells (coloured sizes colours) memo answer → Roomy (length cells) l stack count → length answer′ ≡ length answer
     → Pushable cells answer′ l stack count
 pushable sizes colours s r e =
     record {
@@ -100,7 +100,7 @@ module _ {w h : ℕ} {c : Card} {l : LinePosition} {b report : List ℕ} {entrie
       )
 
   module _ {sizes colours : List ℕ} (e : sizes ≡ sizesAt (v .right) l) (f : colours ≡ coloursAt (v .right) l) where
-    pub tried : Tried w h l b sizes colours memo column answer stack count
+    pub tried : Triable w h l b sizes colours memo column answer stack count
     tried =
         record {
           grid = v .grid;

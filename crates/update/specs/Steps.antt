@@ -11,6 +11,7 @@ use Rattle.rules.specs.Board.{len, On, lineOf, store}
 use Rattle.rules.specs.Card.{Card, clueOf, solveStraight}
 use Rattle.rules.specs.Run.{pushAll, changed, room}
 use Rattle.rules.specs.declared.LinePosition.{LinePosition}
+use Rattle.rules.specs.Refusal.{memoSize, stackSize}
 use Rattle.solver.specs.Steps.{outcome}
 use Rattle.loops.specs.Put.{Put}
 use Rattle.grid.specs.Grid.{Grid, changes, news}
@@ -29,12 +30,12 @@ pub record Attempted (bs : List Block) (l : LinePosition) (cells stack : List �
   pub pushes : r .solved ≡ true → stackOf stack′ (r .stacked) ≡ pushAll l (changed 0 cells answer′) (stackOf stack count)
 
 -- what is asked of a line of the grid and its blocks
-pub record Tried (w h : ℕ) (l : LinePosition) (b sizes colours memo column answer stack : List ℕ) (count : ℕ) : Type 0 where
+pub record Triable (w h : ℕ) (l : LinePosition) (b sizes colours memo column answer stack : List ℕ) (count : ℕ) : Type 0 where
   pub grid : Grid w h b
   pub on : On w h l
   pub exact : length answer ≡ len w h l
   pub copy : h ≤ length column
-  pub memos : 4160 ≤ length memo
+  pub memos : memoSize ≤ length memo
   pub paired : length sizes ≡ length colours
   pub few : length sizes ≤ 64
   pub legal : illegal (blocks sizes colours) ≡ false
@@ -48,8 +49,8 @@ pub record Ready (w h : ℕ) (c : Card) (l : LinePosition) (b report : List ℕ)
   pub lines : Lines w h (l ∷ stackOf stack count)
   pub exact : length answer ≡ len w h l
   pub copy : h ≤ length column
-  pub memos : 4160 ≤ length memo
-  pub stacked : 128 ≤ length stack
+  pub memos : memoSize ≤ length memo
+  pub stacked : stackSize ≤ length stack
   pub reports : entries + room b ≤ length report
 
 -- the line was refused: nothing is stored

@@ -9,9 +9,9 @@ use stack::push::push_changed;
 ghost use lib.ListN.{length};
 ghost use Rattle.rules.specs.Block.{blocks, coloured};
 ghost use Rattle.rules.specs.Board.{lineOf};
-ghost use Rattle.card.specs.Steps.{cardOf};
-ghost use Rattle.line.specs.Steps.{Ready as Solvable};
-ghost use Rattle.update.specs.Steps.{Roomy, Tried, Attempted, Ready, Updated};
+ghost use Rattle.rules.specs.Card.{cardOf};
+ghost use Rattle.line.specs.Steps.{JudgedLine};
+ghost use Rattle.update.specs.Steps.{Roomy, Triable, Attempted, Ready, Updated};
 
 // What became of a line: whether it was solved, and then how many lines are on the stack and entries in the report.
 pub struct Step {
@@ -37,7 +37,7 @@ fn solve_cells(
     stack: &mut [u32],
     count: usize,
 ) -> Attempt
-    requires { ⌜ Solvable (now cells) (coloured (now sizes) (now colours)) (now memo) (now answer) × Roomy (length (now cells)) line (now stack) count ⌝ }
+    requires { ⌜ JudgedLine (now cells) (coloured (now sizes) (now colours)) (now memo) (now answer) × Roomy (length (now cells)) line (now stack) count ⌝ }
     ensures { λ r. ⌜ Attempted (blocks (now (sizes .entry)) (now (colours .entry))) line (now (cells .entry)) (now (stack .entry)) count r (now (answer .exit)) (now (stack .exit)) ⌝ }
 {
     if !solve_legal(cells, sizes, colours, memo, answer) {
@@ -67,7 +67,7 @@ fn solve_at(
     stack: &mut [u32],
     count: usize,
 ) -> Attempt
-    requires { ⌜ Tried width height line (now grid) (now sizes) (now colours) (now memo) (now column) (now answer) (now stack) count ⌝ }
+    requires { ⌜ Triable width height line (now grid) (now sizes) (now colours) (now memo) (now column) (now answer) (now stack) count ⌝ }
     ensures { λ r. ⌜ Attempted (blocks (now (sizes .entry)) (now (colours .entry))) line (lineOf width height (now (grid .entry)) line) (now (stack .entry)) count r (now (answer .exit)) (now (stack .exit)) ⌝ }
 {
     match line {

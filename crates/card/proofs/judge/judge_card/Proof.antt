@@ -3,8 +3,8 @@ use lib.ListN.{length}
 use mathlib.Core.Path.{_≡_, sym, ap₂, _∙_}
 use Rattle.rules.specs.Refusal.{verdict}
 use Rattle.rules.specs.declared.Verdict.the-variants.{Fine}
-use Rattle.rules.specs.Card.{Card}
-use Rattle.card.specs.Steps.{cardOf, legalRules}
+use Rattle.rules.specs.Card.{Card, cardOf}
+use Rattle.card.specs.Steps.{legalRules}
 use Rattle.card.proofs.Counted.{counting, counts-known, card-bad, card-fine}
 use borrow.Author.Needs.{needs}
 use Rattle.card.proofs.judge.judge_card.Statement.{statement}

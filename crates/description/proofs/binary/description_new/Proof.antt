@@ -4,7 +4,7 @@ use lib.ListN.{length}
 use mathlib.Core.Bool.{true}
 use mathlib.Core.Path.{_≡_, sym, _∙_}
 use Rattle.rules.proofs.Blocks.{blacks-length}
-use Rattle.description.proofs.Told.{binary-refused, binary-few, binary-retainable, binary-done}
+use Rattle.description.proofs.Told.{described-refused, binary-few, binary-retainable, described-done}
 use Rattle.rules.specs.Refusal.{verdict, countRules}
 use Rattle.rules.specs.declared.Verdict.the-variants.{Fine}
 use borrow.Author.Needs.{needs}
@@ -52,7 +52,7 @@ returns : tie.Need-returns
 returns c =
     let args = c .before .before .before .before .before .before .args in
     let judge-count = c .before .before .before .judge-count in
-    binary-refused (args .sizes .now) (args .out-sizes .now) (sym (judge-count .ensures) ∙ c .before .v .given .1)
+    described-refused (args .sizes .now) (args .out-sizes .now) (sym (judge-count .ensures) ∙ c .before .v .given .1)
 
 same-length : tie.Need-same-length
 same-length c = search needs
@@ -61,7 +61,7 @@ returns-2 : tie.Need-returns-2
 returns-2 c =
     let args = c .before .before .before .before .before .before .before .before .before .before .before .before .args in
     let retain = c .before .before .before .retain in
-    binary-done (args .sizes .now) (args .out-sizes .now) (fine (c .before .before .before .before .before .before .before))
+    described-done (args .sizes .now) (args .out-sizes .now) (fine (c .before .before .before .before .before .before .before))
     (retain .ensures)
 
 pub description-new-spec : {M : Type 1} → statement M

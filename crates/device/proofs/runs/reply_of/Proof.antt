@@ -2,7 +2,7 @@
 use mathlib.Core.Path.{sym, ap, _∙_}
 use mathlib.Core.Option.{none}
 use Rattle.run.specs.Ends.{replyOf}
-use Rattle.device.specs.Replies.{flat}
+use Rattle.device.specs.Replies.{tellRun}
 use borrow.Author.Needs.{needs}
 use Rattle.device.proofs.runs.reply_of.Statement.{statement}
 use Rattle.device.proofs.runs.reply_of.Tie as tie
@@ -29,13 +29,13 @@ reply-without-line-requires-2 : tie.Need-reply-without-line-requires-2
 reply-without-line-requires-2 c κs = search needs
 
 returns : tie.Need-returns
-returns c = c .reply-without-line .ensures ∙ sym (ap (λ a. flat (replyOf a)) (c .before .before .answer .given .1))
+returns c = c .reply-without-line .ensures ∙ sym (ap (λ a. tellRun (replyOf a)) (c .before .before .answer .given .1))
 
 returns-2 : tie.Need-returns-2
-returns-2 c = c .reply-with-line .ensures ∙ sym (ap (λ a. flat (replyOf a)) (c .before .before .answer2 .given .1))
+returns-2 c = c .reply-with-line .ensures ∙ sym (ap (λ a. tellRun (replyOf a)) (c .before .before .answer2 .given .1))
 
 returns-3 : tie.Need-returns-3
-returns-3 c = c .reply-without-line2 .ensures ∙ ap (λ n. flat (record { number = n; line = none; entries = 0; lines = 0 })) (c .before .refusal-number .ensures) ∙ sym (ap (λ a. flat (replyOf a)) (c .before .before .before .answer3 .given .1))
+returns-3 c = c .reply-without-line2 .ensures ∙ ap (λ n. tellRun (record { number = n; line = none; entries = 0; lines = 0 })) (c .before .refusal-number .ensures) ∙ sym (ap (λ a. tellRun (replyOf a)) (c .before .before .before .answer3 .given .1))
 
 pub reply-of-spec : {M : Type 1} → statement M
 reply-of-spec =

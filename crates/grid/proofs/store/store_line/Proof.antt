@@ -3,7 +3,7 @@ use Prim.Native.Nat.{_-_, _<_}
 use mathlib.Core.Logic.{⊎-elim}
 use native.Mathlib.Omega.{arith}
 use lib.ListN.{length}
-use Rattle.grid.proofs.Storing.{Storing, store-start, in-line, cell-in, cell-small, store-same, room-for, store-change, store-end}
+use Rattle.grid.proofs.Storing.{Storing, store-start, in-line, place-in, cell-small, store-same, room-for, store-change, store-end}
 use Rattle.grid.proofs.store.store_line.Statement.{statement}
 use Rattle.grid.proofs.store.store_line.Tie as tie
 
@@ -34,7 +34,7 @@ inside : (c : tie.After-cell-of Inv-loop μ-loop) → c .cell-of .result < lengt
 inside c =
     let start = c .before .before .before .before .before .before in
     let pre = start .pre in
-    omega (arith, c .cell-of .ensures, cell-in _ _ _ _ _ _ _ pre (c .before .before .loop .inv) (c .before .loop-test .taken))
+    omega (arith, c .cell-of .ensures, place-in _ _ _ _ _ _ _ pre (c .before .before .loop .inv) (c .before .loop-test .taken))
 
 small : (c : tie.After-cell-of Inv-loop μ-loop) → c .cell-of .result < 4096
 small c =

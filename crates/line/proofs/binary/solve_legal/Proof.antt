@@ -6,7 +6,7 @@ use lib.ListN.{length, length-map}
 use mathlib.Core.List.{map}
 use Rattle.rules.specs.Binary.{setOf}
 use Rattle.rules.proofs.Blocks.{blacks-length}
-use Rattle.line.proofs.Told.{few-black, blacks, sets-ready, line-solvable, line-told, binary-told, works-none, works-some}
+use Rattle.line.proofs.Told.{few-black, blackPart, sets-ready, line-solvable, line-told, binary-told, works-none, works-some}
 use borrow.Author.Needs.{needs}
 use Rattle.line.proofs.binary.solve_legal.Statement.{statement}
 use Rattle.line.proofs.binary.solve_legal.Tie as tie
@@ -31,7 +31,7 @@ try-solve-requires c κs =
     let hold-sets = c .before .before .before .before .hold-sets in
     let cells = c .before .before .before .before .before .before .before .before .before .before .args .cells .now in
     let sizes = c .before .before .before .before .before .before .before .before .before .before .args .sizes .now in
-    line-solvable (map setOf cells) sizes (blacks sizes) (sets-ready cells sizes (pre)) (sym (length-map cells setOf)) (hold-sets .ensures)
+    line-solvable (map setOf cells) sizes (blackPart sizes) (sets-ready cells sizes (pre)) (sym (length-map cells setOf)) (hold-sets .ensures)
 
 same-length : tie.Need-same-length
 same-length c = search needs
@@ -45,7 +45,7 @@ returns c =
     let sizes = c .before .before .before .before .before .before .before .before .before .before .before .before .before .before .args .sizes .now in
     works-none
     (binary-told cells sizes (pre)
-    (line-told (map setOf cells) sizes (blacks sizes) (sets-ready cells sizes (pre)) (sym (length-map cells setOf)) (hold-sets .ensures)
+    (line-told (map setOf cells) sizes (blackPart sizes) (sets-ready cells sizes (pre)) (sym (length-map cells setOf)) (hold-sets .ensures)
     (rw (not-true (try-solve .result) (c .if1 .taken)) at (try-solve .ensures))))
 
 write-cells-requires : tie.Need-write-cells-requires
@@ -71,7 +71,7 @@ returns-2 c =
     let sizes = c .before .before .before .before .before .before .before .before .before .before .before .before .before .before .before .before .before .before .before .args .sizes .now in
     works-some
     (binary-told cells sizes (pre)
-    (line-told (map setOf cells) sizes (blacks sizes) (sets-ready cells sizes (pre)) (sym (length-map cells setOf)) (hold-sets .ensures)
+    (line-told (map setOf cells) sizes (blackPart sizes) (sets-ready cells sizes (pre)) (sym (length-map cells setOf)) (hold-sets .ensures)
     (rw (not-false (try-solve .result) (if1 .left)) at (try-solve .ensures))))
     (write-cells .ensures)
 

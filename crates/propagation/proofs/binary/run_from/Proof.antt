@@ -4,7 +4,7 @@ use mathlib.Core.Path.{_≡_, refl, sym, _∙_}
 use Rattle.rules.specs.Card.{Card, blackCard}
 use Rattle.rules.specs.Refusal.{verdict}
 use Rattle.rules.specs.declared.Verdict.the-variants.{Fine}
-use Rattle.propagation.specs.Calls.{binaryRules}
+use Rattle.propagation.specs.Calls.{binaryRunRules}
 use Rattle.propagation.proofs.Told.{judged-binary, ran-refused, ran-ended}
 use Rattle.run.proofs.Started.{told-fits}
 use borrow.Author.Needs.{needs}
@@ -30,7 +30,7 @@ abbrev from-after-enum-told : tie.After-enum-told → tie.Start
 from-after-enum-told c = c .before .before .before .before .before .before .before .before .before .before .before .before
 
 fine : (c : tie.After-enum-told) → verdict
-    (binaryRules (from-after-enum-told c .args .width) (from-after-enum-told c .args .height) (from-after-enum-told c .args .start)
+    (binaryRunRules (from-after-enum-told c .args .width) (from-after-enum-told c .args .height) (from-after-enum-told c .args .start)
     (card (from-after-enum-told c)) (from-after-enum-told c .args .grid .now) (length (from-after-enum-told c .args .report .now))
     (length (from-after-enum-told c .args .memo .now)) (length (from-after-enum-told c .args .stack .now))) ≡ Fine
 fine c = sym (c .before .before .judge-binary .ensures) ∙ c .enum-told .given .1

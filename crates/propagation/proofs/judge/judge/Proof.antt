@@ -1,11 +1,10 @@
 -- `judge::judge` meets its contract: one rule after the other.
 use lib.ListN.{length}
 use mathlib.Core.Path.{_≡_, sym, ap, _∙_}
-use Rattle.rules.specs.Card.{Card}
+use Rattle.rules.specs.Card.{Card, cardOf}
 use Rattle.rules.specs.CardRules.{cardRules}
 use Rattle.rules.specs.Refusal.{verdict}
 use Rattle.rules.specs.declared.Verdict.the-variants.{Fine}
-use Rattle.card.specs.Steps.{cardOf}
 use Rattle.propagation.specs.Calls.{endRules}
 use Rattle.propagation.proofs.Told.{cells-few, run-bad, run-fine}
 use borrow.Author.Needs.{needs}

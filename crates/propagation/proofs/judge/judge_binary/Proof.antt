@@ -41,14 +41,12 @@ returns c =
     sym (binary-cell (args .width) (args .height) (args .start) (card start) (args .grid .now) (args .report) (args .memo) (args .stack)
     (fine (c .before .before)) (sym (c .before .any-above .ensures) ∙ c .if1 .taken))
 
-count-open-requires : tie.Need-count-open-requires
-count-open-requires c κs =
+count-binary-room-requires : tie.Need-count-binary-room-requires
+count-binary-room-requires c κs =
     let start = c .before .before .before .before .before .before .before .before .before .before in
-    let args = start .args in (
-      cells-few (args .width) (args .height) (args .start) (card start) (args .grid .now) (args .report) (args .memo) (args .stack)
-          (fine (c .before .before)),
-      sym (c .before .any-above .ensures) ∙ c .if1 .left,
-    )
+    let args = start .args in
+    cells-few (args .width) (args .height) (args .start) (card start) (args .grid .now) (args .report) (args .memo) (args .stack)
+    (fine (c .before .before))
 
 judge-end-requires : tie.Need-judge-end-requires
 judge-end-requires c κs = search needs
@@ -66,7 +64,7 @@ returns-3 c =
     let start = c .before .before .before .before .before .before .before .before .before .before .before .before in
     let args = start .args in
     let any-above = c .before .before .before .any-above in
-    c .judge-end .ensures ∙ ap (λ n. verdict (endRules (args .width) (args .height) (args .start) (args .report) n)) (c .before .count-open .ensures)
+    c .judge-end .ensures ∙ ap (λ n. verdict (endRules (args .width) (args .height) (args .start) (args .report) n)) (c .before .count-binary-room .ensures)
     ∙ sym (binary-fine (args .width) (args .height) (args .start) (card start) (args .grid .now) (args .report) (args .memo) (args .stack)
     (fine (c .before .before .before .before)) (sym (any-above .ensures) ∙ c .before .before .if1 .left))
 
@@ -79,7 +77,7 @@ judge-binary-spec =
     enum-told
     any-above-requires
     returns
-    count-open-requires
+    count-binary-room-requires
     judge-end-requires
     returns-2
     returns-3)

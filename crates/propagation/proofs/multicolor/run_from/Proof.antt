@@ -1,10 +1,9 @@
 -- `multicolor::run_from` meets its contract: judge first, then match, then work.
 use lib.ListN.{length}
 use mathlib.Core.Path.{_≡_, sym, _∙_}
-use Rattle.rules.specs.Card.{Card}
+use Rattle.rules.specs.Card.{Card, cardOf}
 use Rattle.rules.specs.Refusal.{verdict}
 use Rattle.rules.specs.declared.Verdict.the-variants.{Fine}
-use Rattle.card.specs.Steps.{cardOf}
 use Rattle.propagation.specs.Calls.{runRules}
 use Rattle.propagation.proofs.Told.{judged, ran-refused, ran-ended}
 use Rattle.run.proofs.Started.{told-fits}

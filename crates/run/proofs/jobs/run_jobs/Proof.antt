@@ -6,9 +6,10 @@ use mathlib.Core.Path.{_≡_, refl, sym, _∙_}
 use native.Mathlib.Omega.{arith}
 use borrow.Author.Tests.{not-true, not-false}
 use Rattle.rules.specs.Run.{room}
+use Rattle.rules.specs.Card.{cardOf}
+use Rattle.rules.specs.Refusal.{stackSize}
 use Rattle.grid.proofs.Storing.{len-most}
-use Rattle.card.specs.Steps.{cardOf}
-use Rattle.run.proofs.Running.{Going, run-starts, long, few, run-stops, run-ready, run-refuses, run-less, run-moves}
+use Rattle.run.proofs.Running.{Running, run-starts, long, few, run-stops, run-ready, run-refuses, run-less, run-moves}
 use borrow.Author.Needs.{needs}
 use Rattle.run.proofs.jobs.run_jobs.Statement.{statement}
 use Rattle.run.proofs.jobs.run_jobs.Tie as tie
@@ -16,7 +17,7 @@ use Rattle.run.proofs.jobs.run_jobs.Tie as tie
 abbrev Inv-loop : tie.InvT-loop
 Inv-loop width height grid₀ row-counts row-sizes row-colours column-counts column-sizes column-colours report₀ memo₀ column₀ answer₀ stack₀ count
     left₀ entries₀ lines₀ grid report memo column answer stack left entries lines =
-    Going width height (cardOf row-counts row-sizes row-colours column-counts column-sizes column-colours) grid₀ report₀ stack₀ count grid report
+    Running width height (cardOf row-counts row-sizes row-colours column-counts column-sizes column-colours) grid₀ report₀ stack₀ count grid report
     entries stack left lines
     × (length memo ≡ length memo₀)
     × (length column ≡ length column₀)
@@ -37,7 +38,7 @@ loop-holds c =
 near : (c : tie.In-loop Inv-loop μ-loop) → c .before .loop .left ≡ suc (c .before .loop .left - 1)
 near c = omega (arith, c .loop-test .taken)
 
-small : (c : tie.In-loop Inv-loop μ-loop) → c .before .loop .left ≤ 128
+small : (c : tie.In-loop Inv-loop μ-loop) → c .before .loop .left ≤ stackSize
 small c =
     let start = c .before .before .before .before .before .before .before .before .before .before .before .before .before .before in
     let pre = start .pre in

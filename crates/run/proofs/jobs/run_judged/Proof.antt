@@ -1,7 +1,6 @@
 -- `jobs::run_judged` meets its contract.
 use native.Mathlib.Omega.{arith}
-use Rattle.rules.specs.Card.{Card}
-use Rattle.card.specs.Steps.{cardOf}
+use Rattle.rules.specs.Card.{Card, cardOf}
 use Rattle.run.proofs.Started.{begins, ended}
 use borrow.Author.Needs.{needs}
 use Rattle.run.proofs.jobs.run_judged.Statement.{statement}
