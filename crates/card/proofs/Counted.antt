@@ -11,7 +11,7 @@ use lib.Dec.{eqb, leb}
 use lib.ListN.{length, getD, take, length-map}
 use lib.Seq.{take-suc}
 use Rattle.rules.specs.Block.{blacks, blocks, illegal}
-use Rattle.rules.specs.Card.{Card, sum, part}
+use Rattle.rules.specs.Card.{Card, sum}
 use Rattle.rules.specs.CardRules.{countsFit, roomFits, crowded, cardRules}
 use Rattle.rules.specs.Refusal.{Rule, _when_, verdict, sideRules, memoSize, stackSize}
 use Rattle.rules.specs.declared.Refusal.the-variants.{BadRoom, TooManyBlocks, BadBlock}
@@ -20,7 +20,7 @@ use Rattle.rules.specs.declared.Verdict.the-variants.{Fine, Bad}
 use Rattle.rules.proofs.Tests.{both-true}
 use Rattle.rules.proofs.Searching.{not-above}
 use Rattle.rules.proofs.Verdicts.{append-bad, append-fine, append-parts, fine-cons, sides-fine}
-use Rattle.card.specs.Steps.{Counts, RightCard, listRules, legalRules, testRules}
+use Rattle.card.specs.Steps.{RightCard, listRules, legalRules, testRules}
 
 -- ---- sums
 

@@ -3,22 +3,24 @@ use mathlib.Core.Path.{_≡_, refl, sym, ap, subst, _∙_}
 use mathlib.Core.Logic.{_↔_}
 use mathlib.Core.List.{List, map}
 use mathlib.Core.Option.{Option, none, some}
-use Prim.Native.Nat.{ℕ, _<_}
+use Prim.Native.Nat.{ℕ, _≤_, _<_}
 use native.Mathlib.Omega.{arith}
 use lib.ListN.{length, getD, length-map}
 use Rattle.rules.specs.Block.{Lent, black}
 use Rattle.rules.specs.Placement.{Placement}
-use Rattle.rules.specs.Answer.{Fitting, Refused, Exact, Answers, Proper}
+use Rattle.rules.specs.Answer.{Fitting, Differing, Refused, Exact, Answers, Proper}
 use Rattle.rules.specs.Binary.{setOf, cellOf, lineAnswer, readBack}
 use Rattle.rules.specs.Refusal.{verdict}
 use Rattle.rules.specs.declared.Verdict.{Verdict}
 use Rattle.rules.specs.declared.Verdict.the-variants.{Fine, Bad}
 use Rattle.rules.proofs.Placements.{placement-proper}
-use Rattle.rules.proofs.Binaries.{line-right, line-only, binary-white, binary-black}
+use Rattle.rules.proofs.Answers.{narrows}
+use Rattle.rules.proofs.Binaries.{line-right, line-only, sets-small, binary-white, binary-black, binary-open}
 use Rattle.rules.proofs.Blocks.{test-legal}
+use Rattle.rules.proofs.Colours.{subset-num}
 use Rattle.rules.proofs.Replies.{by-checking}
 use Rattle.line.specs.Calls.{numberOf, output, lineRules, binaryLineRules, SolvesLine, SolvesBinaryLine}
-use Rattle.line.proofs.Told.{binary-ready}
+use Rattle.line.proofs.Told.{binary-ready, binary-small}
 
 -- what the numbers 8 and 0 say of rules and answer
 told-eight : (v : Verdict) (a : Option (List ℕ)) → 8 ≡ numberOf v a → a ≡ none
@@ -85,11 +87,12 @@ module _ (cells sizes : List ℕ) where
         (r .0, (subst (Answers P sets) (r .1 .0) (line-right (map black sizes) (length sets) sets), r .1 .1))
 
     module _ (s : SolvesBinaryLine cells sizes memo out 0 m x) (i : ℕ) (h : i < length cells) where
+      told : verdict (binaryLineRules cells sizes (length memo) (length out)) ≡ Fine
+      told =
+          told-zero (verdict (binaryLineRules cells sizes (length memo) (length out))) (readBack (lineAnswer (map black sizes) sets)) out (s .tells) .0
+
       proper : (p : List ℕ) → P p → Proper p
-      proper p l =
-          let t = told-zero (verdict (binaryLineRules cells sizes (length memo) (length out))) (readBack (lineAnswer (map black sizes) sets)) out
-          (s .tells) in
-          placement-proper (test-legal (map black sizes) (binary-ready cells sizes memo out (t .0) .legal)) p l
+      proper p l = placement-proper (test-legal (map black sizes) (binary-ready cells sizes memo out told .legal)) p l
 
       -- white exactly if they all say so
       pub binary-zero-white : (getD x i 0 ≡ 1) ↔ ((p : List ℕ) → Fitting P sets p → getD p i 0 ≡ 1)
@@ -104,3 +107,18 @@ module _ (cells sizes : List ℕ) where
           let u = solved-sets s in
           subst (λ (l : List ℕ). (getD l i 0 ≡ 2) ↔ ((p : List ℕ) → Fitting P sets p → getD p i 0 ≡ 2)) (sym (u .1 .1))
           (binary-black proper (u .1 .0) i (omega (arith, length-map cells setOf)))
+
+      -- undefined exactly if two of them differ
+      pub binary-zero-open : (getD x i 0 ≡ 0) ↔ Differing P sets i
+      binary-zero-open =
+          let u = solved-sets s in
+          subst (λ (l : List ℕ). (getD l i 0 ≡ 0) ↔ Differing P sets i) (sym (u .1 .1))
+          (binary-open proper (u .1 .0) i (omega (arith, length-map cells setOf)) (small (u .0) (u .1 .0)))
+        where
+          small : (m : List ℕ) → Exact P sets m → getD m i 0 ≤ 3
+          small m y =
+              omega (
+                arith,
+                subset-num (getD m i 0) (getD sets i 0) (narrows proper y .each i),
+                sets-small cells (binary-small cells sizes memo out told) i,
+              )

@@ -7,7 +7,7 @@ use Prim.Native.Nat.{ℕ, _≤_}
 use native.Mathlib.Omega.{arith}
 use borrow.Author.Tests.{eqb-true, leb-true}
 use lib.Dec.{eqb, leb}
-use lib.ListN.{length, take, replicate, length-replicate, length-map}
+use lib.ListN.{length, getD, take, replicate, length-replicate, length-map}
 use lib.Seq.{sets, length-sets}
 use Rattle.rules.specs.Block.{Lent, black, blocks, coloured, binary}
 use Rattle.rules.specs.Binary.{setOf, lineAnswer, readBack, binaryAnswer}
@@ -16,7 +16,7 @@ use Rattle.rules.specs.declared.Refusal.{Refusal}
 use Rattle.rules.specs.declared.Verdict.the-variants.{Fine, Bad}
 use Rattle.rules.proofs.Tests.{both-true, true-not-false}
 use Rattle.rules.proofs.Blocks.{length-blocks, black-blocks, black-lent}
-use Rattle.rules.proofs.Verdicts.{bad-not-fine, append-parts, length-fine, blocks-fine}
+use Rattle.rules.proofs.Verdicts.{bad-not-fine, append-parts, length-fine, blocks-fine, cells-fine}
 use Rattle.loops.proofs.Stores.{take-sets}
 use Rattle.line.specs.Calls.{roomFor, lineRules, binaryLineRules, Solves}
 use Rattle.solver.specs.Steps.{Solvable, Tried, outcome}
@@ -46,13 +46,21 @@ module _ (cells : List ℕ) (b : Lent) (memo out : List ℕ) where
       let p = append-parts (lengthRules (length cells)) (blockRules b (roomFor (length cells) (length memo) (length out))) e in
       rules-ready (p .0) (p .1)
 
-pub binary-ready : (cells sizes memo out : List ℕ) → verdict (binaryLineRules cells sizes (length memo) (length out)) ≡ Fine
-    → JudgedLine cells (binary sizes) memo out
-binary-ready cells sizes memo out e =
-    let room = roomFor (length cells) (length memo) (length out) in
-    let p = append-parts (lengthRules (length cells)) (blockRules (binary sizes) room ++ cellRules cells) e in
-    let q = append-parts (blockRules (binary sizes) room) (cellRules cells) (p .1) in
-    rules-ready cells (binary sizes) memo out (p .0) (q .0)
+module _ (cells sizes memo out : List ℕ) (e : verdict (binaryLineRules cells sizes (length memo) (length out)) ≡ Fine) where
+  abbrev room : Bool
+  room = roomFor (length cells) (length memo) (length out)
+
+  parts : (verdict (lengthRules (length cells)) ≡ Fine) × (verdict (blockRules (binary sizes) room) ≡ Fine) × (verdict (cellRules cells) ≡ Fine)
+  parts =
+      let p = append-parts (lengthRules (length cells)) (blockRules (binary sizes) room ++ cellRules cells) e in
+      let q = append-parts (blockRules (binary sizes) room) (cellRules cells) (p .1) in
+      (p .0, q .0, q .1)
+
+  pub binary-ready : JudgedLine cells (binary sizes) memo out
+  binary-ready = rules-ready cells (binary sizes) memo out (parts .0) (parts .1)
+
+  pub binary-small : (i : ℕ) → getD cells i 0 ≤ 2
+  binary-small = cells-fine cells (parts .2)
 
 -- ---- a line of sets, of n cells, that were written to an empty array
 

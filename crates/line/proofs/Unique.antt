@@ -26,15 +26,15 @@ answer-one (Refused w) Unsolvable e = absurd (by-checking w .1 e)
 answer-one (Refused w) (Refused u) e = ap (λ x. Refused x) (number-one w u e)
 
 -- the same number and output, whatever the two memos held
-alike : {rules : List Rule} {a : Option (List ℕ)} {memo memo₂ out m n x y : List ℕ} {r s : ℕ}
+pub solves-alike : {rules : List Rule} {a : Option (List ℕ)} {memo memo₂ out m n x y : List ℕ} {r s : ℕ}
     → Solves rules a memo out r m x → Solves rules a memo₂ out s n y → (r ≡ s) × (x ≡ y)
-alike p q = (same (p .tells) (q .tells), same (p .leaves) (q .leaves))
+solves-alike p q = (same (p .tells) (q .tells), same (p .leaves) (q .leaves))
 
 -- and, if the input is refused by checking, the same memo
 pub one-number : {rules : List Rule} {a : Option (List ℕ)} {memo out m n x y : List ℕ} {r s : ℕ}
     → Solves rules a memo out r m x → Solves rules a memo out s n y
     → (r ≡ s) × (x ≡ y) × ((w : Refusal) → verdict rules ≡ Bad w → m ≡ n)
-one-number p q = let k = alike p q in (k .0, k .1, λ w e. same (p .kept w e) (q .kept w e))
+one-number p q = let k = solves-alike p q in (k .0, k .1, λ w e. same (p .kept w e) (q .kept w e))
 
 -- ---- the calls
 
@@ -52,8 +52,8 @@ solve-binary-line cells sizes r s p q = let k = one-number p q in (answer-one r 
 
 pub line-memo-free : (cells : List ℕ) (b : Lent) (memo memo₂ : List ℕ) → length memo ≡ length memo₂ → {out m n x y : List ℕ} (r s : LineAnswer)
     → SolvesLine cells b memo out (lineAnswerNumber r) m x → SolvesLine cells b memo₂ out (lineAnswerNumber s) n y → (r ≡ s) × (x ≡ y)
-line-memo-free cells b memo memo₂ e r s p q = let k = alike (rw e at p) q in (answer-one r s (k .0), k .1)
+line-memo-free cells b memo memo₂ e r s p q = let k = solves-alike (rw e at p) q in (answer-one r s (k .0), k .1)
 
 pub binary-memo-free : (cells sizes memo memo₂ : List ℕ) → length memo ≡ length memo₂ → {out m n x y : List ℕ} (r s : LineAnswer)
     → SolvesBinaryLine cells sizes memo out (lineAnswerNumber r) m x → SolvesBinaryLine cells sizes memo₂ out (lineAnswerNumber s) n y → (r ≡ s) × (x ≡ y)
-binary-memo-free cells sizes memo memo₂ e r s p q = let k = alike (rw e at p) q in (answer-one r s (k .0), k .1)
+binary-memo-free cells sizes memo memo₂ e r s p q = let k = solves-alike (rw e at p) q in (answer-one r s (k .0), k .1)

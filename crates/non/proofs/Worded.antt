@@ -12,7 +12,6 @@ use lib.Seq.{drop-cons}
 use borrow.Author.Tests.{ltb-false, eqb-true, eqb-false, lt-ltb, le-ltb, ne-eqb}
 use Rattle.non.specs.declared.words.Class.{Class}
 use Rattle.non.specs.declared.words.Class.the-variants.{Number, Key, Name}
-use Rattle.non.specs.declared.words.Word.{Word}
 use Rattle.non.specs.declared.words.Word.the-variants.{Is, Long, Missing}
 use Rattle.non.specs.Wording.{inWord, baseOf, worthOf, mostOf, wordIn, valueFrom, readAs, wordTo}
 

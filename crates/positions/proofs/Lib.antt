@@ -3,3 +3,4 @@ pub mod Judged
 pub mod Told
 pub mod Unique
 pub mod Order
+pub mod Meaning

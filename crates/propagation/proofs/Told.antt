@@ -15,14 +15,13 @@ use Rattle.rules.specs.Card.{Card, blackCard, sum, cardOf}
 use Rattle.rules.specs.CardRules.{cardRules}
 use Rattle.rules.specs.Ranges.{anyOf}
 use Rattle.rules.specs.Refusal.{Rule, _when_, verdict, cellRules}
-use Rattle.rules.specs.Run.{room, Outcome, run, reportOf}
+use Rattle.rules.specs.Run.{room, Outcome, reportOf}
 use Rattle.rules.specs.declared.Refusal.{Refusal}
 use Rattle.rules.specs.declared.Refusal.the-variants.{BadCell, OutsideGrid, ShortReport}
 use Rattle.rules.specs.declared.Verdict.the-variants.{Fine, Bad}
 use Rattle.rules.proofs.Blocks.{blacks-take}
-use Rattle.rules.proofs.Searching.{not-above}
 use Rattle.rules.proofs.Tests.{both-true}
-use Rattle.rules.proofs.Verdicts.{bad-not-fine, fine-cons, append-bad, append-fine, append-parts}
+use Rattle.rules.proofs.Verdicts.{bad-not-fine, fine-cons, cells-fine, append-bad, append-fine, append-parts}
 use Rattle.loops.proofs.Going.{written-sets}
 use Rattle.card.specs.Steps.{Direction}
 use Rattle.card.proofs.Counted.{card-known, card-right}
@@ -112,7 +111,7 @@ module _ (w h : ℕ) (s : Start) (c : Card) (grid report memo stack : List ℕ) 
       let ends = endRules w h s (length report) (room (map setOf grid)) in
       let p = append-parts (cardRules w h (length grid) c (length memo) (length stack)) (cellRules grid ++ ends) e in
       let q = append-parts (cellRules grid) ends (p .1) in
-      not-above 2 grid (fine-cons (BadCell when anyOf (λ n. ltb 2 n) grid) [] (q .0) .0)
+      cells-fine grid (q .0)
 
 -- ---- black colours
 

@@ -32,10 +32,10 @@ reply-one (Refused w) (Unsolvable l m n) e = absurd (by-checking w .1 (ap (λ t.
 reply-one (Refused w) (Refused u) e = ap (λ x. Refused x) (number-one w u (ap (λ t. t .number) e))
 
 -- the same reply, grid and report, whatever memo and stack held
-alike : {rules : List Rule} {o : Outcome} {board grid report memo stack memo₂ stack₂ g r m k g₂ r₂ m₂ k₂ : List ℕ} {t u : Reply}
+pub ran-alike : {rules : List Rule} {o : Outcome} {board grid report memo stack memo₂ stack₂ g r m k g₂ r₂ m₂ k₂ : List ℕ} {t u : Reply}
     → Ran rules o board grid report memo stack t g r m k → Ran rules o board grid report memo₂ stack₂ u g₂ r₂ m₂ k₂
     → (t ≡ u) × (g ≡ g₂) × (r ≡ r₂)
-alike p q = (same (p .tells) (q .tells), same (p .leaves) (q .leaves), same (p .reports) (q .reports))
+ran-alike p q = (same (p .tells) (q .tells), same (p .leaves) (q .leaves), same (p .reports) (q .reports))
 
 -- what two calls with one input have in common: all but memo and stack after 0 and 8
 pub record Same (rules : List Rule) (r s : RunAnswer) (g x m k g₂ x₂ m₂ k₂ : List ℕ) : Type 0 where
@@ -49,7 +49,7 @@ one : {rules : List Rule} {o : Outcome} {board grid report memo stack g x m k g�
     → Ran rules o board grid report memo stack (replyOf r) g x m k → Ran rules o board grid report memo stack (replyOf s) g₂ x₂ m₂ k₂
     → Same rules r s g x m k g₂ x₂ m₂ k₂
 one r s p q =
-    let a = alike p q in
+    let a = ran-alike p q in
     record {
       answers = reply-one r s (a .0);
       grids = a .1;
@@ -76,8 +76,8 @@ module _ (w h : ℕ) (s : Start) (c : Card) (grid report memo stack memo₂ stac
     {g x m k g₂ x₂ m₂ k₂ : List ℕ} (r r₂ : RunAnswer) where
   pub memory-free : RunsColoured w h s c grid report memo stack (replyOf r) g x m k → RunsColoured w h s c grid report memo₂ stack₂ (replyOf r₂) g₂ x₂ m₂ k₂
       → (r ≡ r₂) × (g ≡ g₂) × (x ≡ x₂)
-  memory-free p q = let a = alike (rw (e, f) at p) q in (reply-one r r₂ (a .0), a .1, a .2)
+  memory-free p q = let a = ran-alike (rw (e, f) at p) q in (reply-one r r₂ (a .0), a .1, a .2)
 
   pub binary-memory-free : RunsBinary w h s c grid report memo stack (replyOf r) g x m k
       → RunsBinary w h s c grid report memo₂ stack₂ (replyOf r₂) g₂ x₂ m₂ k₂ → (r ≡ r₂) × (g ≡ g₂) × (x ≡ x₂)
-  binary-memory-free p q = let a = alike (rw (e, f) at p) q in (reply-one r r₂ (a .0), a .1, a .2)
+  binary-memory-free p q = let a = ran-alike (rw (e, f) at p) q in (reply-one r r₂ (a .0), a .1, a .2)

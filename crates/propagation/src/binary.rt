@@ -10,7 +10,6 @@ use run::Start;
 use run::jobs::run_judged;
 ghost use mathlib.Core.Path.{_≡_};
 ghost use mathlib.Core.List.{map};
-ghost use lib.ListN.{replicate};
 ghost use Rattle.rules.specs.Binary.{setOf, cellOf};
 ghost use Rattle.rules.specs.Card.{blackCard};
 ghost use Rattle.run.specs.Ends.{replyOf, endOf};

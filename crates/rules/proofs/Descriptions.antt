@@ -1,10 +1,8 @@
 -- `Description::new` drops the blocks equal to the default and no others.
 use mathlib.Core.Path.{_≡_, refl, ap}
-use mathlib.Core.Bool.{Bool, true, false, cond}
-use mathlib.Core.Logic.{_⊎_, inl, inr}
-use mathlib.Core.List.{List, [], _∷_, _++_, map}
+use mathlib.Core.Logic.{inl, inr}
+use mathlib.Core.List.{List, [], _∷_, map}
 use Prim.Native.Nat.{ℕ}
-use lib.Dec.{eqb}
 use Rattle.rules.specs.Block.{Block, black, sizesOf}
 use Rattle.rules.specs.Clue.{Sifted, no-items, dropped, kept, NoBlock, NoSize, colouredDefault, binaryDefault, described}
 use Rattle.rules.proofs.Tests.{Compared, eqb-cases}

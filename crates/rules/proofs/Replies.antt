@@ -5,9 +5,10 @@ use Prim.Native.Nat.{ℕ}
 use native.Mathlib.Omega.{arith}
 use lib.ListN.{length, getD}
 use Rattle.rules.specs.Block.{Block, sizesOf, coloursOf}
-use Rattle.rules.specs.Refusal.{refusalNumber, Rule, verdict, listReply, written, Writes, WritesBlocks}
+use Rattle.rules.specs.Refusal.{refusalNumber, Rule, verdict, reply, listReply, written, Writes, WritesBlocks}
 use Rattle.rules.specs.declared.Refusal.{Refusal}
 use Rattle.rules.specs.declared.Refusal.the-variants.{BadLength, BadRoom, TooManyBlocks, BadBlock, BadCell, OutsideGrid, ShortReport, BadCode, NoSpace}
+use Rattle.rules.specs.declared.Verdict.{Verdict}
 use Rattle.rules.specs.declared.Verdict.the-variants.{Fine, Bad}
 use Rattle.rules.specs.declared.ListAnswer.{ListAnswer}
 use Rattle.rules.specs.declared.ListAnswer.the-variants.{Done, Refused}
@@ -53,6 +54,11 @@ list-reply-one (Done m) (Done n) e = cc
 list-reply-one (Done m) (Refused u) e = let h = ap length e in absurd (omega arith)
 list-reply-one (Refused w) (Done n) e = let h = ap length e in absurd (omega arith)
 list-reply-one (Refused w) (Refused u) e = ap (λ x. Refused x) (number-one w u (head-one e))
+
+-- a call that counted its entries was refused by no rule
+pub done-count : (v : Verdict) {n m : ℕ} → listReply (Done n) ≡ reply v (m ∷ []) → (v ≡ Fine) × (n ≡ m)
+done-count Fine e = (refl, cc)
+done-count (Bad w) e = let h = ap length e in absurd (omega arith)
 
 -- ---- one answer
 

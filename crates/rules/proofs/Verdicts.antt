@@ -7,13 +7,15 @@ use Prim.Native.Nat.{ℕ, _≤_, _<_}
 use native.Mathlib.Omega.{arith}
 use borrow.Author.Tests.{eqb-false, ltb-false, not-false, leb-true, eqb-true}
 use lib.Dec.{eqb, ltb, leb}
-use lib.ListN.{length, length-map}
+use lib.ListN.{length, getD, length-map}
 use Rattle.rules.specs.Block.{Lent, black, blocks, coloured, binary, illegal}
-use Rattle.rules.specs.Refusal.{refusalNumber, Rule, _when_, verdict, ascending, Lowest, lengthRules, sideRules, countRules, blockRules}
+use Rattle.rules.specs.Ranges.{anyOf}
+use Rattle.rules.specs.Refusal.{refusalNumber, Rule, _when_, verdict, ascending, Lowest, lengthRules, sideRules, countRules, blockRules, cellRules}
 use Rattle.rules.specs.declared.Refusal.{Refusal}
-use Rattle.rules.specs.declared.Refusal.the-variants.{BadLength, BadRoom, TooManyBlocks, BadBlock}
+use Rattle.rules.specs.declared.Refusal.the-variants.{BadLength, BadRoom, TooManyBlocks, BadBlock, BadCell}
 use Rattle.rules.specs.declared.Verdict.{Verdict}
 use Rattle.rules.specs.declared.Verdict.the-variants.{Fine, Bad}
+use Rattle.rules.proofs.Searching.{not-above}
 use Rattle.rules.proofs.Tests.{Compared, both-true, eqb-cases}
 use Rattle.rules.proofs.Blocks.{length-blocks}
 
@@ -149,6 +151,10 @@ blocks-fine b roomy e =
     let r4 = BadBlock when illegal (b .list) in
     let p = append-parts rs (r4 ∷ []) e in
     record { counted = count-fine (b .paired) (length (b .list)) roomy (p .0); legal = fine-cons r4 [] (p .1) .0 }
+
+-- no cell is above 2
+pub cells-fine : (cells : List ℕ) → verdict (cellRules cells) ≡ Fine → (i : ℕ) → getD cells i 0 ≤ 2
+cells-fine cells e = not-above 2 cells (fine-cons (BadCell when anyOf (λ c. ltb 2 c) cells) [] e .0)
 
 pub pair-fine : (ns cs : List ℕ) (roomy : Bool) → verdict (blockRules (coloured ns cs) roomy) ≡ Fine → (length ns ≡ length cs) × (length ns ≤ 64)
 pair-fine ns cs roomy e =

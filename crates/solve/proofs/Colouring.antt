@@ -1,7 +1,7 @@
 -- A cell that is known to have a colour is shown by that colour's word.
-use mathlib.Core.Path.{_≡_, refl, _∙_, ap}
+use mathlib.Core.Path.{_≡_, refl, ap}
 use mathlib.Core.List.{List}
-use Prim.Native.Nat.{ℕ, zero, suc, _+_, _*_, _/_, _%_, _^_, _<_}
+use Prim.Native.Nat.{ℕ, zero, suc, _/_, _%_, _^_, _<_}
 use native.Mathlib.Nat.{pow-suc, mul-div-cancel, one-mul}
 use native.Mathlib.Omega.{arith}
 use lib.Count.{ones, ones-step, trailingZeros}

@@ -1,0 +1,68 @@
+-- What the exported calls that solve or run say in the words of C: their number or their struct. s is Full for a full run, else a point.
+use mathlib.Core.Path.{_≡_, sym, ap, _∙_}
+use mathlib.Core.List.{List, map}
+use Prim.Native.Nat.{ℕ}
+use lib.ListN.{length}
+use Rattle.rules.specs.Binary.{setOf}
+use Rattle.rules.specs.Block.{Lent}
+use Rattle.rules.specs.Card.{Card}
+use Rattle.line.specs.Calls.{SolvesLine, SolvesBinaryLine}
+use Rattle.line.proofs.Unique.{solves-alike}
+use Rattle.run.specs.Ends.{Reply}
+use Rattle.run.specs.declared.Start.{Start}
+use Rattle.propagation.specs.Answered.{coloured, binary, Halted}
+use Rattle.propagation.specs.Calls.{RunsColoured, RunsBinary}
+use Rattle.propagation.proofs.Meaning.{halted}
+use Rattle.propagation.proofs.Unique.{ran-alike}
+use Rattle.device.specs.Halting.{HaltedAt}
+use Rattle.device.specs.Replies.{Told, tellRun}
+use Rattle.device.specs.declared.runs.RunReply.{RunReply}
+use Rattle.device.proofs.Unique.{told-one}
+
+-- ---- two calls that differ only in what the memory lent to them holds answer alike
+
+module _ {memo memo₂ : List ℕ} (e : length memo ≡ length memo₂) {out m x m₂ x₂ : List ℕ} {a b : ℕ} where
+  -- sp_solve_line
+  pub line-free : (cells : List ℕ) (blocks : Lent) → SolvesLine cells blocks memo out a m x → SolvesLine cells blocks memo₂ out b m₂ x₂
+      → (a ≡ b) × (x ≡ x₂)
+  line-free cells blocks p q = solves-alike (rw e at p) q
+
+  -- sp_solve_binary_line
+  pub binary-line-free : (cells sizes : List ℕ) → SolvesBinaryLine cells sizes memo out a m x → SolvesBinaryLine cells sizes memo₂ out b m₂ x₂
+      → (a ≡ b) × (x ≡ x₂)
+  binary-line-free cells sizes p q = solves-alike (rw e at p) q
+
+module _ (w h : ℕ) (s : Start) (c : Card) (grid report memo stack memo₂ stack₂ : List ℕ) (e : length memo ≡ length memo₂)
+    (f : length stack ≡ length stack₂) {g x m k g₂ x₂ m₂ k₂ : List ℕ} {a b : RunReply} where
+  -- sp_run, sp_run_point
+  pub run-free : Told tellRun (λ t. RunsColoured w h s c grid report memo stack t g x m k) a
+      → Told tellRun (λ t. RunsColoured w h s c grid report memo₂ stack₂ t g₂ x₂ m₂ k₂) b → (a ≡ b) × (g ≡ g₂) × (x ≡ x₂)
+  run-free p q = let k = ran-alike (rw (e, f) at (p .says)) (q .says) in (told-one p q (k .0), k .1, k .2)
+
+  -- sp_run_binary, sp_run_binary_point
+  pub binary-run-free : Told tellRun (λ t. RunsBinary w h s c grid report memo stack t g x m k) a
+      → Told tellRun (λ t. RunsBinary w h s c grid report memo₂ stack₂ t g₂ x₂ m₂ k₂) b → (a ≡ b) × (g ≡ g₂) × (x ≡ x₂)
+  binary-run-free p q = let k = ran-alike (rw (e, f) at (p .says)) (q .says) in (told-one p q (k .0), k .1, k .2)
+
+-- ---- what the number 8 says of a run
+
+module _ {w h : ℕ} {s : Start} {c : Card} {b₀ b report : List ℕ} {t : Reply} {r : RunReply} (e : r ≡ tellRun t) where
+  halted-at : Halted w h s c b₀ t b report → HaltedAt w h s c b₀ r b report
+  halted-at v = record {
+    line = v .line;
+    kind = rw (e, v .names);
+    index = rw (e, v .names);
+    on = v .on;
+    never = v .never;
+    before = rw e (v .before);
+  }
+
+module _ {w h : ℕ} {s : Start} {c : Card} {grid report memo stack g x m k : List ℕ} {r : RunReply} where
+  -- sp_run, sp_run_point
+  pub run-halted : Told tellRun (λ t. RunsColoured w h s c grid report memo stack t g x m k) r → r .number ≡ 8 → HaltedAt w h s c grid r g x
+  run-halted p n = halted-at (p .tells) (halted (coloured (p .says)) (sym (ap (λ u. u .number) (p .tells)) ∙ n))
+
+  -- sp_run_binary, sp_run_binary_point, whose boards are read as sets
+  pub binary-run-halted : Told tellRun (λ t. RunsBinary w h s c grid report memo stack t g x m k) r → r .number ≡ 8
+      → HaltedAt w h s c (map setOf grid) r (map setOf g) x
+  binary-run-halted p n = halted-at (p .tells) (halted (binary (p .says)) (sym (ap (λ u. u .number) (p .tells)) ∙ n))
