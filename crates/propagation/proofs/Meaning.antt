@@ -30,7 +30,7 @@ use Rattle.rules.proofs.Settled.{picture-settled, widest-one, widest-again, wid
 use Rattle.card.proofs.Clued.{clue-legal}
 use Rattle.run.specs.declared.Start.{Start}
 use Rattle.run.specs.declared.Start.the-variants.{Full, Point}
-use Rattle.propagation.specs.Answered.{Answered, coloured, binary, Passed, Placed, OthersStable, Halted}
+use Rattle.propagation.specs.Answered.{Answered, coloured, binary, Passed, Placed, OthersStable, Fit, Halted}
 use Rattle.propagation.specs.Calls.{runRules, binaryRunRules, runReply, gridLeft, Ran}
 use Rattle.run.specs.Ends.{Reply, replyTo, endOf, endTold, startStack, startCount}
 use Rattle.run.specs.Steps.{Judged}
@@ -122,11 +122,6 @@ module _ {P : LinePosition → List ℕ → Type 0} (w h : ℕ) (b₀ : List ℕ
   eight-unsettled (done b r k) t e n z = absurd (let q : _≡_ {A = ℕ} 8 0 = sym n ∙ ap (λ x. x .number) e in omega arith)
   eight-unsettled (refused l b r k) t e n z = z
 
--- what is asked of the start: nothing for a full run
-abbrev pub Fit : ℕ → ℕ → Start → Card → List ℕ → Type 0
-Fit w h Full c b = Unit {0}
-Fit w h (Point x y) c b = OthersStable w h c x y b
-
 ends : {w h : ℕ} (s : Start) {c : Card} {b report memo stack : List ℕ} → Judged w h s c b report memo stack → Fit w h s c b
     → Ends (Placed w h c) w h b (endOf w h s c b)
 ends {w} {h} Full {c} {b} j f = straight-full w h (clueOf c) (clue-legal (j .right)) (j .grid .wide) (j .grid .high) b (sized (j .grid))
@@ -149,11 +144,15 @@ module _ {w h : ℕ} {s : Start} {c : Card} {b₀ r₀ : List ℕ} {t : Reply} {
       go (refused l x y k) e f g =
           rw (e, f, g) (ap (λ z. refused l x z k) (sym (take-at y (drop (length y) (ending a p .report)) (length y) refl)))
 
-  -- is the one that the order rules give, from the stack that its run begins with
+  -- has the reply's number, line and counts
+  pub reply-is : t ≡ replyTo end
+  reply-is = ending a p .tells ∙ ap replyTo end-is
+
+  -- and is the one that the order rules give, from the stack that its run begins with
   pub by-the-rules : Runs w h (solveStraight w h (clueOf c)) (startStack w h s) b₀ [] 0 end
   by-the-rules = subst (Runs w h (solveStraight w h (clueOf c)) (startStack w h s) b₀ [] 0) end-is (end-runs (ending a p .was))
 
-  -- and they give no other
+  -- they give no other
   pub by-no-other : {o : Outcome} → Runs w h (solveStraight w h (clueOf c)) (startStack w h s) b₀ [] 0 o → o ≡ end
   by-no-other d = runs-one w h (solveStraight w h (clueOf c)) d by-the-rules
 

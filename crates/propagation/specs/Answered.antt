@@ -15,6 +15,7 @@ use Rattle.rules.specs.declared.ColumnIndex.{ColumnIndex}
 use Rattle.rules.specs.declared.RowIndex.{RowIndex}
 use Rattle.run.specs.Ends.{Reply, startStack}
 use Rattle.run.specs.declared.Start.{Start}
+use Rattle.run.specs.declared.Start.the-variants.{Full, Point}
 use Rattle.propagation.specs.Calls.{RunsColoured, RunsBinary}
 
 -- a call on a board of sets and a report, its reply, and the board of sets and the report that it left
@@ -35,6 +36,11 @@ Placed w h c = Straight w h (clueOf c)
 -- every line but the two through a point is stable
 abbrev pub OthersStable : ℕ → ℕ → Card → ColumnIndex → RowIndex → List ℕ → Type 0
 OthersStable w h c x y b = (l : LinePosition) → On w h l → l ≢ row (y .0) → l ≢ column (x .0) → Stable (Placed w h c) w h b l
+
+-- what is asked of the start so that a run settles all of it: nothing for a full run
+abbrev pub Fit : ℕ → ℕ → Start → Card → List ℕ → Type 0
+Fit w h Full c b = Unit {0}
+Fit w h (Point x y) c b = OthersStable w h c x y b
 
 -- a refused run, of its reply and the board and the report that it left: the line that it names is one of the board, of which no placement
 -- agrees with that board; and by the order rules the run comes to this line with this board, the first entries of this report, and as many
