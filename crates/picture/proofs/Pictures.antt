@@ -1,83 +1,37 @@
 -- What the calls for clues tell of pictures, from their statements alone.
 use Rattle.picture.proofs.Told.{binary-known, coloured-known}
 use Rattle.clue.proofs.Told.{codes-fine}
-use Prim.Native.Nat.{ℕ, zero, suc, _+_, _<_, _*_}
+use Prim.Native.Nat.{ℕ, _+_, _<_, _≤_, _*_}
 use lib.Dec.{eqb, leb}
-use lib.ListN.{length, take, drop, getD, length-append, length-map}
-use lib.Seq.{take-at, drop-append-add}
+use lib.ListN.{length, take, drop, getD, length-map}
+use lib.Seq.{take-at}
 use mathlib.Core.Bool.{Bool, true, false, cond, _&&_}
-use mathlib.Core.List.{List, [], _∷_, _++_, map}
+use mathlib.Core.List.{List, [], _∷_, map}
 use mathlib.Core.Path.{_≡_, refl, sym, ap, _∙_, subst}
-use native.Mathlib.Nat.{add-zero}
 use native.Mathlib.Omega.{arith}
-use Rattle.picture.specs.Calls.{gridFits, cluesReply, binaryCluesRules, colouredCluesRules, BinaryClues, ColouredClues}
+use Rattle.picture.specs.Calls.{gridFits, cluesReply, GridLists, binaryCluesRules, colouredCluesRules, BinaryClues, ColouredClues, cardIn, blackCardIn}
 use Rattle.rules.specs.Colour.{Colour}
-use Rattle.rules.proofs.Blocks.{blocks-back}
 use Rattle.rules.proofs.Boards.{place-lt, length-line, getD-line}
+use Rattle.rules.proofs.Clues.{clue-length}
 use Rattle.rules.proofs.Codes.{any-at, any-all, mixed-different, different-mixed}
+use Rattle.rules.proofs.Gatherings.{lines-counted, lines-paired, gatheredCard, gathered-clue, gathered-fine, inBlack, black-length, black-gathered}
 use Rattle.rules.proofs.Readings.{getD-map-lt, map-line, read-colour, read-placement, codes-legal, black-placement, black-colour, black-legal}
+use Rattle.rules.proofs.Verdicts.{sides-fine}
 use Rattle.rules.specs.Block.{Block, black, sizesOf, coloursOf, Legal, illegalColour}
 use Rattle.rules.specs.Board.{row, column, len, On, place, lineOf, Picture}
-use Rattle.rules.specs.Card.{Card, sum, part, clueOf, Straight, linesFrom, rowClues, columnClues, gathered, countOf}
+use Rattle.rules.specs.Card.{clueOf, Straight, rowClues, columnClues, gathered, countOf}
+use Rattle.rules.specs.CardRules.{cardRules}
 use Rattle.rules.specs.Clue.{clue, badCode, mixedCode, readCode, readBinary}
 use Rattle.rules.specs.Placement.{Placement}
 use Rattle.rules.specs.Ranges.{anyOf}
-use Rattle.rules.specs.Refusal.{reply, verdict, lengthRules, left}
+use Rattle.rules.specs.Refusal.{Rule, reply, verdict, sideRules, left, memoSize, stackSize}
 use Rattle.rules.specs.declared.LinePosition.{LinePosition}
 use Rattle.rules.specs.declared.LinePosition.the-variants.{Row, Column}
 use Rattle.rules.specs.declared.Verdict.{Verdict}
 use Rattle.rules.specs.declared.Verdict.the-variants.{Fine, Bad}
 use Rattle.picture.specs.declared.CluesAnswer.the-variants as Clues
-use Rattle.rules.specs.declared.ListAnswer.the-variants.{Done}
 
--- ---- the clues read back from the lists
-
-lines-at : (f : ℕ → List Block) (k n i : ℕ) → i < n → getD (linesFrom f k n) i [] ≡ f (k + i)
-lines-at f k zero i h = absurd (omega arith)
-lines-at f k (suc n) zero h = ap f (sym (add-zero k))
-lines-at f k (suc n) (suc i) h = lines-at f (suc k) n i (omega arith) ∙ ap f (omega arith)
-
-lines-length : (f : ℕ → List Block) (k n : ℕ) → length (linesFrom f k n) ≡ n
-lines-length f k zero = refl
-lines-length f k (suc n) = ap suc (lines-length f (suc k) n)
-
-part-at : (F : List Block → List ℕ) → ((bs : List Block) → length (F bs) ≡ length bs) → (L : List (List Block)) (i : ℕ) → i < length L
-    → part (gathered countOf L) i (gathered F L) ≡ F (getD L i [])
-part-at F e [] i h = absurd (omega arith)
-part-at F e (bs ∷ L) zero h = take-at (F bs) (gathered F L) (length bs) (e bs)
-part-at F e (bs ∷ L) (suc i) h =
-    ap (λ n. take (getD (gathered countOf L) i 0) (drop (n + sum (take i (gathered countOf L))) (F bs ++ gathered F L))) (sym (e bs))
-    ∙ ap (take (getD (gathered countOf L) i 0)) (drop-append-add (F bs) (gathered F L) (sum (take i (gathered countOf L))))
-    ∙ part-at F e L i (omega arith)
-
-sizes-length : (bs : List Block) → length (sizesOf bs) ≡ length bs
-sizes-length bs = length-map bs (λ b. b .size)
-
-colours-length : (bs : List Block) → length (coloursOf bs) ≡ length bs
-colours-length bs = length-map bs (λ b. b .colour)
-
--- line i's part of a list of all lines
-line-part : (F : List Block → List ℕ) → ((bs : List Block) → length (F bs) ≡ length bs) → (f : ℕ → List Block) (n i : ℕ) → i < n
-    → part (gathered countOf (linesFrom f 0 n)) i (gathered F (linesFrom f 0 n)) ≡ F (f i)
-line-part F e f n i h =
-    let q = lines-length f 0 n in
-    part-at F e (linesFrom f 0 n) i (omega arith) ∙ ap F (lines-at f 0 n i h ∙ ap f (omega arith))
-
-counts-length : (L : List (List Block)) → length (gathered countOf L) ≡ length L
-counts-length [] = refl
-counts-length (bs ∷ L) = ap suc (counts-length L)
-
-tints-length : (L : List (List Block)) → length (gathered coloursOf L) ≡ length (gathered sizesOf L)
-tints-length [] = refl
-tints-length (bs ∷ L) =
-    omega (
-      arith,
-      tints-length L,
-      length-append (coloursOf bs) (gathered coloursOf L),
-      length-append (sizesOf bs) (gathered sizesOf L),
-      colours-length bs,
-      sizes-length bs,
-    )
+-- ---- the lists that a call left
 
 -- the front of a list that a call left is what it wrote
 front : {v : Verdict} (vs out out′ : List ℕ) (n : ℕ) → v ≡ Fine → out′ ≡ left v vs out → length vs ≡ n → take n out′ ≡ vs
@@ -87,6 +41,27 @@ front vs out out′ n e q l = ap (take n) (q ∙ rw e refl) ∙ take-at vs (drop
 done-fine : (v : Verdict) (a b m n : ℕ) → cluesReply (Clues.Done m n) ≡ reply v (a ∷ b ∷ []) → (v ≡ Fine) × (m ≡ a) × (n ≡ b)
 done-fine Fine a b m n e = (refl, cc, cc)
 done-fine (Bad w) a b m n e = let h = ap length e in absurd (omega arith)
+
+module _ (e w h m n : ℕ) (b : List ℕ) {rules : List Rule} {rc rs cc cs rc′ rs′ cc′ cs′ : List ℕ}
+    (c : GridLists rules (rowClues e w h b) (columnClues e w h b) rc rs cc cs (Clues.Done m n) rc′ rs′ cc′ cs′) where
+  abbrev rows : List (List Block)
+  rows = rowClues e w h b
+
+  abbrev columns : List (List Block)
+  columns = columnClues e w h b
+
+  fine : (verdict rules ≡ Fine) × (m ≡ length (gathered sizesOf rows)) × (n ≡ length (gathered sizesOf columns))
+  fine = done-fine (verdict rules) (length (gathered sizesOf rows)) (length (gathered sizesOf columns)) m n (c .answers)
+
+  -- the counts and the sizes of the lines, one after the other
+  lists-back : (take h rc′ ≡ gathered countOf rows) × (take m rs′ ≡ gathered sizesOf rows) × (take w cc′ ≡ gathered countOf columns) ×
+      (take n cs′ ≡ gathered sizesOf columns)
+  lists-back = (
+    front (gathered countOf rows) rc rc′ h (fine .0) (c .row-counts) (lines-counted (λ y. clue e (lineOf w h b (row y))) h),
+    front (gathered sizesOf rows) rs rs′ m (fine .0) (c .row-sizes) (sym (fine .1)),
+    front (gathered countOf columns) cc cc′ w (fine .0) (c .column-counts) (lines-counted (λ x. clue e (lineOf w h b (column x))) w),
+    front (gathered sizesOf columns) cs cs′ n (fine .0) (c .column-sizes) (sym (fine .2)),
+  )
 
 -- ---- a grid: whatever the blank code, the picture as read is one of the clues that the call left
 
@@ -137,114 +112,98 @@ picture-read f w h b k size single placed = record {
   placed = λ l o. rw (map-line f w h b l size o) (subst (λ (n : ℕ). Placement (k l) n (map f (lineOf w h b l))) (length-line w h b l) (placed l o));
 }
 
--- the clues of a card, as a reader of the lists takes them: as many entries of each as the answer and the sides say
-abbrev pub cardIn : ℕ → ℕ → ℕ → ℕ → List ℕ → List ℕ → List ℕ → List ℕ → List ℕ → List ℕ → Card
-cardIn w h rows columns rc rs rt cc cs ct = record {
-  rowCounts = take h rc;
-  rowSizes = take rows rs;
-  rowColours = take rows rt;
-  columnCounts = take w cc;
-  columnSizes = take columns cs;
-  columnColours = take columns ct;
-}
+-- a line's clue has at most 64 blocks
+clue-few : (e w h : ℕ) (b : List ℕ) → verdict (sideRules w h) ≡ Fine → (l : LinePosition) → length (clue e (lineOf w h b l)) ≤ 64
+clue-few e w h b q l = omega (arith, clue-length e (lineOf w h b l), length-line w h b l, low l)
+  where
+    low : (l : LinePosition) → len w h l ≤ 64
+    low (Row y) = sides-fine w h q .1
+    low (Column x) = sides-fine w h q .3
 
 module _ {e w h m n : ℕ} {b rc rs rt cc cs ct rc′ rs′ rt′ cc′ cs′ ct′ : List ℕ} (c : ColouredClues e w h b rc rs rt cc cs ct (Clues.Done m n) rc′ rs′ rt′ cc′ cs′ ct′) where
-  abbrev rows : List (List Block)
-  rows = rowClues e w h b
-
-  abbrev columns : List (List Block)
-  columns = columnClues e w h b
-
   abbrev fits : Bool
   fits = gridFits w h (length b) (length rc) (length rs) (length cc) (length cs) && (leb (w * h) (length rt) && leb (w * h) (length ct))
 
-  fine : (verdict (colouredCluesRules e w h b rc rs rt cc cs ct) ≡ Fine) × (m ≡ length (gathered sizesOf rows)) × (n ≡ length (gathered sizesOf columns))
-  fine =
-      done-fine (verdict (colouredCluesRules e w h b rc rs rt cc cs ct)) (length (gathered sizesOf rows)) (length (gathered sizesOf columns)) m n
-      (c .lists .answers)
+  kept : verdict (colouredCluesRules e w h b rc rs rt cc cs ct) ≡ Fine
+  kept = fine e w h m n b (c .lists) .0
 
-  good : badCode e b ≡ false
-  good = codes-fine (lengthRules w ++ lengthRules h) fits (badCode e b) (fine .0) .2
+  tested : (verdict (sideRules w h) ≡ Fine) × (fits ≡ true) × (badCode e b ≡ false)
+  tested = codes-fine (sideRules w h) fits (badCode e b) kept
 
   sized : length b ≡ h * w
-  sized = omega (arith, coloured-known e w h b rc rs cc cs rt ct (fine .0) .0 .size)
+  sized = omega (arith, coloured-known e w h b rc rs cc cs rt ct kept .0 .size)
 
   line-good : (l : LinePosition) → On w h l → badCode e (lineOf w h b l) ≡ false
-  line-good l o = line-none w h b sized (λ x. cond (eqb x e) false (illegalColour x)) good l o
+  line-good l o = line-none w h b sized (λ x. cond (eqb x e) false (illegalColour x)) (tested .2) l o
 
-  -- the lists as left hold the clues
+  -- the lists as left hold the clues, line after line
+  card-back : cardIn w h m n rc′ rs′ rt′ cc′ cs′ ct′ ≡ gatheredCard w h (λ l. clue e (lineOf w h b l))
+  card-back =
+      let q = lists-back e w h m n b (c .lists) in
+      let k = fine e w h m n b (c .lists) in
+      rw (
+        q .0,
+        q .1,
+        q .2,
+        q .3,
+        front (gathered coloursOf (rowClues e w h b)) rt rt′ m kept (c .colours .row-colours)
+            (lines-paired (λ y. clue e (lineOf w h b (row y))) h ∙ sym (k .1)),
+        front (gathered coloursOf (columnClues e w h b)) ct ct′ n kept (c .colours .column-colours)
+            (lines-paired (λ x. clue e (lineOf w h b (column x))) w ∙ sym (k .2)),
+      )
+
   pub clues-back : (l : LinePosition) → On w h l → clueOf (cardIn w h m n rc′ rs′ rt′ cc′ cs′ ct′) l ≡ clue e (lineOf w h b l)
-  clues-back (Row y) o =
-      rw (
-        front (gathered countOf rows) rc rc′ h (fine .0) (c .lists .row-counts)
-            (counts-length rows ∙ lines-length (λ k. clue e (lineOf w h b (row k))) 0 h),
-        front (gathered sizesOf rows) rs rs′ m (fine .0) (c .lists .row-sizes) (sym (fine .1)),
-        front (gathered coloursOf rows) rt rt′ m (fine .0) (c .colours .row-colours) (tints-length rows ∙ sym (fine .1)),
-        line-part sizesOf sizes-length (λ k. clue e (lineOf w h b (row k))) h (y .0) o,
-        line-part coloursOf colours-length (λ k. clue e (lineOf w h b (row k))) h (y .0) o,
-      )
-      (blocks-back (clue e (lineOf w h b (Row y))))
-  clues-back (Column x) o =
-      rw (
-        front (gathered countOf columns) cc cc′ w (fine .0) (c .lists .column-counts)
-            (counts-length columns ∙ lines-length (λ k. clue e (lineOf w h b (column k))) 0 w),
-        front (gathered sizesOf columns) cs cs′ n (fine .0) (c .lists .column-sizes) (sym (fine .2)),
-        front (gathered coloursOf columns) ct ct′ n (fine .0) (c .colours .column-colours) (tints-length columns ∙ sym (fine .2)),
-        line-part sizesOf sizes-length (λ k. clue e (lineOf w h b (column k))) w (x .0) o,
-        line-part coloursOf colours-length (λ k. clue e (lineOf w h b (column k))) w (x .0) o,
-      )
-      (blocks-back (clue e (lineOf w h b (Column x))))
+  clues-back l o = gathered-clue w h (λ k. clue e (lineOf w h b k)) card-back l o
 
   pub picture-of-clues : Picture (Straight w h (clueOf (cardIn w h m n rc′ rs′ rt′ cc′ cs′ ct′))) w h (map (readCode e) b)
   picture-of-clues =
       picture-read (readCode e) w h b (clueOf (cardIn w h m n rc′ rs′ rt′ cc′ cs′ ct′)) sized
-      (λ i p. read-colour e (getD b i 0) (any-at (λ x. cond (eqb x e) false (illegalColour x)) b i good p))
+      (λ i p. read-colour e (getD b i 0) (any-at (λ x. cond (eqb x e) false (illegalColour x)) b i (tested .2) p))
       (λ l o. rw (clues-back l o) (read-placement e (lineOf w h b l) (line-good l o)))
 
   pub clues-legal : (l : LinePosition) → On w h l → Legal (clueOf (cardIn w h m n rc′ rs′ rt′ cc′ cs′ ct′) l)
   clues-legal l o = subst (λ (bs : List Block). Legal bs) (sym (clues-back l o)) (codes-legal e (lineOf w h b l) (line-good l o))
 
+  -- lent to a run, with as many cells and enough memory, they break no rule of a card
+  pub clues-lent : (cells memo stack : ℕ) → cells ≡ w * h → memoSize ≤ memo → stackSize ≤ stack
+      → verdict (cardRules w h cells (cardIn w h m n rc′ rs′ rt′ cc′ cs′ ct′) memo stack) ≡ Fine
+  clues-lent cells memo stack p q r =
+      gathered-fine w h (λ l. clue e (lineOf w h b l)) card-back cells memo stack (tested .0) p q r
+      (λ l o. codes-legal e (lineOf w h b l) (line-good l o)) (λ l o. clue-few e w h b (tested .0) l)
+
 -- ---- the same for binary clues: every code but the blank one is black
 
-abbrev pub blacksIn : ℕ → ℕ → ℕ → ℕ → List ℕ → List ℕ → List ℕ → List ℕ → LinePosition → List Block
-blacksIn w h rows columns rc rs cc cs (Row y) = map black (part (take h rc) (y .0) (take rows rs))
-blacksIn w h rows columns rc rs cc cs (Column x) = map black (part (take w cc) (x .0) (take columns cs))
-
 module _ (e w h m n : ℕ) (b : List ℕ) {rc rs cc cs rc′ rs′ cc′ cs′ : List ℕ} (c : BinaryClues e w h b rc rs cc cs (Clues.Done m n) rc′ rs′ cc′ cs′) where
-  binary-fine : (verdict (binaryCluesRules e w h b rc rs cc cs) ≡ Fine) × (m ≡ length (gathered sizesOf (rowClues e w h b))) ×
-      (n ≡ length (gathered sizesOf (columnClues e w h b)))
-  binary-fine =
-      done-fine (verdict (binaryCluesRules e w h b rc rs cc cs)) (length (gathered sizesOf (rowClues e w h b)))
-      (length (gathered sizesOf (columnClues e w h b))) m n (c .answers)
+  binary-kept : verdict (binaryCluesRules e w h b rc rs cc cs) ≡ Fine
+  binary-kept = fine e w h m n b c .0
 
-  unmixed : mixedCode e b ≡ false
-  unmixed =
-      codes-fine (lengthRules w ++ lengthRules h) (gridFits w h (length b) (length rc) (length rs) (length cc) (length cs)) (mixedCode e b)
-      (binary-fine .0) .2
+  binary-tested : (verdict (sideRules w h) ≡ Fine) × (gridFits w h (length b) (length rc) (length rs) (length cc) (length cs) ≡ true) ×
+      (mixedCode e b ≡ false)
+  binary-tested =
+      codes-fine (sideRules w h) (gridFits w h (length b) (length rc) (length rs) (length cc) (length cs)) (mixedCode e b) binary-kept
 
   binary-sized : length b ≡ h * w
-  binary-sized = omega (arith, binary-known e w h b rc rs cc cs (binary-fine .0) .0 .size)
+  binary-sized = omega (arith, binary-known e w h b rc rs cc cs binary-kept .0 .size)
 
-  pub binary-clues-back : (l : LinePosition) → On w h l → blacksIn w h m n rc′ rs′ cc′ cs′ l ≡ map black (sizesOf (clue e (lineOf w h b l)))
-  binary-clues-back (Row y) o =
-      rw (
-        front (gathered countOf (rowClues e w h b)) rc rc′ h (binary-fine .0) (c .row-counts)
-            (counts-length (rowClues e w h b) ∙ lines-length (λ k. clue e (lineOf w h b (row k))) 0 h),
-        front (gathered sizesOf (rowClues e w h b)) rs rs′ m (binary-fine .0) (c .row-sizes) (sym (binary-fine .1)),
-        line-part sizesOf sizes-length (λ k. clue e (lineOf w h b (row k))) h (y .0) o,
-      )
-  binary-clues-back (Column x) o =
-      rw (
-        front (gathered countOf (columnClues e w h b)) cc cc′ w (binary-fine .0) (c .column-counts)
-            (counts-length (columnClues e w h b) ∙ lines-length (λ k. clue e (lineOf w h b (column k))) 0 w),
-        front (gathered sizesOf (columnClues e w h b)) cs cs′ n (binary-fine .0) (c .column-sizes) (sym (binary-fine .2)),
-        line-part sizesOf sizes-length (λ k. clue e (lineOf w h b (column k))) w (x .0) o,
-      )
+  black-back : blackCardIn w h m n rc′ rs′ cc′ cs′ ≡ gatheredCard w h (λ l. inBlack (clue e (lineOf w h b l)))
+  black-back =
+      let q = lists-back e w h m n b c in
+      rw (q .0, q .1, q .2, q .3) (black-gathered w h (λ l. clue e (lineOf w h b l)))
 
-  pub picture-of-binary-clues : Picture (Straight w h (blacksIn w h m n rc′ rs′ cc′ cs′)) w h (map (readBinary e) b)
+  pub binary-clues-back : (l : LinePosition) → On w h l
+      → clueOf (blackCardIn w h m n rc′ rs′ cc′ cs′) l ≡ map black (sizesOf (clue e (lineOf w h b l)))
+  binary-clues-back l o = gathered-clue w h (λ k. inBlack (clue e (lineOf w h b k))) black-back l o
+
+  pub picture-of-binary-clues : Picture (Straight w h (clueOf (blackCardIn w h m n rc′ rs′ cc′ cs′))) w h (map (readBinary e) b)
   picture-of-binary-clues =
-      picture-read (readBinary e) w h b (blacksIn w h m n rc′ rs′ cc′ cs′) binary-sized (λ i p. black-colour e (getD b i 0))
-      (λ l o. rw (binary-clues-back l o) (black-placement e (lineOf w h b l) (line-unmixed e w h b binary-sized unmixed l o)))
+      picture-read (readBinary e) w h b (clueOf (blackCardIn w h m n rc′ rs′ cc′ cs′)) binary-sized (λ i p. black-colour e (getD b i 0))
+      (λ l o. rw (binary-clues-back l o) (black-placement e (lineOf w h b l) (line-unmixed e w h b binary-sized (binary-tested .2) l o)))
 
-  pub binary-clues-legal : (l : LinePosition) → On w h l → Legal (blacksIn w h m n rc′ rs′ cc′ cs′ l)
+  pub binary-clues-legal : (l : LinePosition) → On w h l → Legal (clueOf (blackCardIn w h m n rc′ rs′ cc′ cs′) l)
   binary-clues-legal l o = subst (λ (bs : List Block). Legal bs) (sym (binary-clues-back l o)) (black-legal e (lineOf w h b l))
+
+  pub binary-clues-lent : (cells memo stack : ℕ) → cells ≡ w * h → memoSize ≤ memo → stackSize ≤ stack
+      → verdict (cardRules w h cells (blackCardIn w h m n rc′ rs′ cc′ cs′) memo stack) ≡ Fine
+  binary-clues-lent cells memo stack p q r =
+      gathered-fine w h (λ l. inBlack (clue e (lineOf w h b l))) black-back cells memo stack (binary-tested .0) p q r
+      (λ l o. black-legal e (lineOf w h b l)) (λ l o. omega (arith, black-length (clue e (lineOf w h b l)), clue-few e w h b (binary-tested .0) l))

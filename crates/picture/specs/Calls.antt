@@ -4,10 +4,10 @@ use mathlib.Core.Bool.{Bool, _&&_}
 use mathlib.Core.List.{List, [], _∷_, _++_}
 use Prim.Native.Nat.{ℕ, _*_}
 use lib.Dec.{eqb, leb}
-use lib.ListN.{length}
+use lib.ListN.{length, take}
 use Rattle.rules.specs.Block.{Block, sizesOf, coloursOf}
 use Rattle.rules.specs.Clue.{badCode, mixedCode}
-use Rattle.rules.specs.Card.{rowClues, columnClues, gathered, countOf}
+use Rattle.rules.specs.Card.{Card, cardOf, blackCard, rowClues, columnClues, gathered, countOf}
 use Rattle.rules.specs.Refusal.{refusalNumber, Rule, verdict, sideRules, reply, left}
 use Rattle.clue.specs.Calls.{codeRules}
 use Rattle.picture.specs.declared.CluesAnswer.{CluesAnswer}
@@ -59,3 +59,12 @@ BinaryClues e w h b rc rs cc cs = GridLists (binaryCluesRules e w h b rc rs cc c
 pub record ColouredClues (e w h : ℕ) (b rc rs rt cc cs ct : List ℕ) (r : CluesAnswer) (rc′ rs′ rt′ cc′ cs′ ct′ : List ℕ) : Type 0 where
   pub lists : GridLists (colouredCluesRules e w h b rc rs rt cc cs ct) (rowClues e w h b) (columnClues e w h b) rc rs cc cs r rc′ rs′ cc′ cs′
   pub colours : GridColours (colouredCluesRules e w h b rc rs rt cc cs ct) (rowClues e w h b) (columnClues e w h b) rt ct rt′ ct′
+
+-- ---- the clues of a card, as a reader of the lists takes them: as many entries of each as the answer and the sides say
+
+abbrev pub cardIn : ℕ → ℕ → ℕ → ℕ → List ℕ → List ℕ → List ℕ → List ℕ → List ℕ → List ℕ → Card
+cardIn w h rows columns rc rs rt cc cs ct = cardOf (take h rc) (take rows rs) (take rows rt) (take w cc) (take columns cs) (take columns ct)
+
+-- the same of binary lists
+abbrev pub blackCardIn : ℕ → ℕ → ℕ → ℕ → List ℕ → List ℕ → List ℕ → List ℕ → Card
+blackCardIn w h rows columns rc rs cc cs = blackCard (take h rc) (take rows rs) (take w cc) (take columns cs)

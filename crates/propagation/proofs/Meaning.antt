@@ -31,7 +31,7 @@ use Rattle.card.proofs.Clued.{clue-legal}
 use Rattle.run.specs.declared.Start.{Start}
 use Rattle.run.specs.declared.Start.the-variants.{Full, Point}
 use Rattle.propagation.specs.Answered.{Answered, coloured, binary, Passed, Placed, OthersStable, Fit, Halted}
-use Rattle.propagation.specs.Calls.{runRules, binaryRunRules, runReply, gridLeft, Ran}
+use Rattle.propagation.specs.Calls.{runRules, binaryRunRules, runReply, Ran}
 use Rattle.run.specs.Ends.{Reply, replyTo, endOf, endTold, startStack, startCount}
 use Rattle.run.specs.Steps.{Judged}
 use Rattle.grid.proofs.Rows.{sized}
@@ -95,18 +95,23 @@ ending {w} {h} {s} {c} {t = t} (binary {grid = grid} {report = report} {memo = m
       reports = rw e at (a .reports);
     }
 
--- a call that did not pass them left the board as it was
+-- a call that breaks no rule passes the checks
 replied : (o : Outcome) → Passed (replyTo o)
 replied (done b r k) = inl refl
 replied (refused l b r k) = inr refl
 
-ran-passed : {rules : List Rule} {o : Outcome} {board grid report memo stack : List ℕ} {t : Reply} {grid′ report′ memo′ stack′ : List ℕ}
-    → Ran rules o board grid report memo stack t grid′ report′ memo′ stack′ → Passed t ⊎ (grid′ ≡ grid)
-ran-passed {rules} {o} {board} {grid} {t = t} {grid′ = grid′} a = go (verdict rules) (a .tells) (a .leaves)
-  where
-    go : (v : Verdict) → t ≡ runReply v o → grid′ ≡ gridLeft v board grid → Passed t ⊎ (grid′ ≡ grid)
-    go Fine e f = inl (subst Passed (sym e) (replied o))
-    go (Bad w) e f = inr f
+module _ {rules : List Rule} {o : Outcome} {board grid report memo stack : List ℕ} {t : Reply} {grid′ report′ memo′ stack′ : List ℕ}
+    (a : Ran rules o board grid report memo stack t grid′ report′ memo′ stack′) where
+  pub fine-passed : verdict rules ≡ Fine → Passed t
+  fine-passed e = subst Passed (sym (rw e at (a .tells))) (replied o)
+
+  -- one that did not pass them left the board as it was
+  ran-passed : Passed t ⊎ (grid′ ≡ grid)
+  ran-passed = go (verdict rules) refl
+    where
+      go : (v : Verdict) → verdict rules ≡ v → Passed t ⊎ (grid′ ≡ grid)
+      go Fine e = inl (fine-passed e)
+      go (Bad w) e = inr (rw e at (a .leaves))
 
 passed-or-kept : {w h : ℕ} {s : Start} {c : Card} {b₀ r₀ : List ℕ} {t : Reply} {b r : List ℕ} → Answered w h s c b₀ r₀ t b r → Passed t ⊎ (b ≡ b₀)
 passed-or-kept (coloured a) = ran-passed a

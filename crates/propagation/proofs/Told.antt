@@ -5,7 +5,7 @@ use mathlib.Core.List.{List, [], _∷_, _++_, map}
 use Prim.Native.Nat.{ℕ, suc, _+_, _*_, _≤_}
 use native.Mathlib.Nat.{mul-le-mul}
 use native.Mathlib.Omega.{arith}
-use borrow.Author.Tests.{ltb-true, ltb-false, not-false}
+use borrow.Author.Tests.{ltb-true, ltb-false, le-ltb, not-false}
 use lib.Dec.{ltb}
 use lib.ListN.{length, getD, take, length-map}
 use lib.Seq.{sets}
@@ -62,6 +62,10 @@ module _ (w h : ℕ) (s : Start) (c : Card) (grid : List ℕ) (report memo stack
   pub binary-fine : verdict firsts ≡ Fine → anyOf (λ n. ltb 2 n) grid ≡ false
       → verdict (binaryRunRules w h s c grid report memo stack) ≡ verdict lasts
   binary-fine e f = append-fine firsts (cellRules grid ++ lasts) e ∙ rw f
+
+-- a full run asks of the rest only room for the report
+pub report-fine : (w h report n : ℕ) → n ≤ report → verdict (endRules w h Full report n) ≡ Fine
+report-fine w h report n r = rw (le-ltb report n r)
 
 -- ---- what the rules leave
 

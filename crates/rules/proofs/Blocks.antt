@@ -71,6 +71,10 @@ blacks-take [] k h = refl
 blacks-take (n ∷ ns) zero h = absurd (omega arith)
 blacks-take (n ∷ ns) (suc k) h = ap (λ l. 2 ∷ l) (blacks-take ns k (omega arith))
 
+pub sizes-back : (ns : List ℕ) → sizesOf (map black ns) ≡ ns
+sizes-back [] = refl
+sizes-back (n ∷ ns) = ap (λ l. n ∷ l) (sizes-back ns)
+
 pub blacks-blocks : (ns : List ℕ) → blocks ns (blacks ns) ≡ map black ns
 blacks-blocks [] = refl
 blacks-blocks (n ∷ ns) = ap (λ l. black n ∷ l) (blacks-blocks ns)

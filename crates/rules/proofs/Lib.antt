@@ -18,6 +18,7 @@ pub mod Replies
 pub mod Table
 pub mod Boards
 pub mod Readings
+pub mod Gatherings
 pub mod Settled
 pub mod Stacks
 pub mod Rooms

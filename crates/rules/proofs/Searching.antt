@@ -1,11 +1,11 @@
 -- A turn of a loop that looks for a number that passes a test, and what it tells to have found none.
-use mathlib.Core.Path.{_≡_}
+use mathlib.Core.Path.{_≡_, refl}
 use mathlib.Core.Bool.{Bool, true, false, cond}
 use mathlib.Core.List.{List, [], _∷_}
 use Prim.Native.Nat.{ℕ, zero, suc, _+_, _≤_, _<_}
 use native.Mathlib.Numerals.{add-one}
 use native.Mathlib.Omega.{arith}
-use borrow.Author.Tests.{ltb-false}
+use borrow.Author.Tests.{ltb-false, le-ltb}
 use lib.Dec.{ltb}
 use lib.ListN.{length, drop, getD, drop-of-length-le}
 use lib.Seq.{drop-cons}
@@ -24,3 +24,7 @@ pub not-above : (n : ℕ) (l : List ℕ) → anyOf (λ k. ltb n k) l ≡ false �
 not-above n [] e i = omega arith
 not-above n (k ∷ l) e zero = let p = cond-false (ltb n k) (anyOf (λ m. ltb n m) l) e in ltb-false n k (p .0)
 not-above n (k ∷ l) e (suc i) = let p = cond-false (ltb n k) (anyOf (λ m. ltb n m) l) e in not-above n l (p .1) i
+
+pub none-above : (n : ℕ) (l : List ℕ) → ((i : ℕ) → i < length l → getD l i 0 ≤ n) → anyOf (λ k. ltb n k) l ≡ false
+none-above n [] f = refl
+none-above n (k ∷ l) f = rw (le-ltb n k (f 0 (omega arith))) (none-above n l (λ i h. f (suc i) (omega arith)))
