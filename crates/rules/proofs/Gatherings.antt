@@ -97,16 +97,16 @@ module _ (f : ℕ → List Block) (n : ℕ) where
       let q = lines-length f 0 n in
       rw (part-at sizesOf sizes-length lines i (omega arith), part-at coloursOf colours-length lines i (omega arith), line-at i h) (blocks-back (f i))
 
-  lines-fit : countsFit n (gathered countOf lines) (length (gathered sizesOf lines)) (length (gathered coloursOf lines)) ≡ true
-  lines-fit = rw (eq-eqb _ _ lines-counted, eq-eqb _ _ (sym (counts-sum sizesOf sizes-length lines)), eq-eqb _ _ lines-paired)
+  direction-fit : countsFit n (gathered countOf lines) (length (gathered sizesOf lines)) (length (gathered coloursOf lines)) ≡ true
+  direction-fit = rw (eq-eqb _ _ lines-counted, eq-eqb _ _ (sym (counts-sum sizesOf sizes-length lines)), eq-eqb _ _ lines-paired)
 
-  lines-few : ((i : ℕ) → i < n → length (f i) ≤ 64) → crowded (gathered countOf lines) ≡ false
-  lines-few o =
+  direction-few : ((i : ℕ) → i < n → length (f i) ≤ 64) → crowded (gathered countOf lines) ≡ false
+  direction-few o =
       none-above 64 (gathered countOf lines)
       (λ i h. omega (arith, counts-at lines i, each (λ bs. length bs ≤ 64) o i (omega (arith, counts-length lines))))
 
-  lines-legal : ((i : ℕ) → i < n → Legal (f i)) → illegal (blocks (gathered sizesOf lines) (gathered coloursOf lines)) ≡ false
-  lines-legal o = legal-test (legal-all lines (each Legal o))
+  direction-legal : ((i : ℕ) → i < n → Legal (f i)) → illegal (blocks (gathered sizesOf lines) (gathered coloursOf lines)) ≡ false
+  direction-legal o = legal-test (legal-all lines (each Legal o))
 
 -- ---- both directions: the card of the clues f of a board's lines
 
@@ -146,12 +146,12 @@ module _ (w h : ℕ) (f : LinePosition → List Block) where
           eq-eqb cells (w * h) e,
           le-leb memoSize memo m,
           le-leb stackSize stack s,
-          lines-fit (λ y. f (row y)) h,
-          lines-fit (λ x. f (column x)) w,
-          lines-few (λ y. f (row y)) h (λ y o. few (row y) o),
-          lines-few (λ x. f (column x)) w (λ x o. few (column x) o),
-          lines-legal (λ y. f (row y)) h (λ y o. legal (row y) o),
-          lines-legal (λ x. f (column x)) w (λ x o. legal (column x) o),
+          direction-fit (λ y. f (row y)) h,
+          direction-fit (λ x. f (column x)) w,
+          direction-few (λ y. f (row y)) h (λ y o. few (row y) o),
+          direction-few (λ x. f (column x)) w (λ x o. few (column x) o),
+          direction-legal (λ y. f (row y)) h (λ y o. legal (row y) o),
+          direction-legal (λ x. f (column x)) w (λ x o. legal (column x) o),
         )
 
 -- ---- the same of sizes alone: every block is black
