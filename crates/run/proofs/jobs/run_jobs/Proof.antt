@@ -177,23 +177,6 @@ add-lines c =
     .before .before .before .before .before .before .before .before .before .loop in
     omega (arith, loop .inv .0 .spent, loop .inv .0 .enough, few _ _ _ _ _ _ _ (pre .right) (run-starts _ _ _ _ _ _ _ pre), pre .reports, start .good)
 
-loop-less : tie.Need-loop-less Inv-loop μ-loop
-loop-less c =
-    let start = c .before .before .before .before .before .before .before .before .before .before .before .before .before .before .before .before
-    .before .before .before .before .before .before .before .before .before .before .before .before .before .before .before .before .before
-    .before .before .before .before .before in
-    let pre = start .pre in
-    let loop = c .before .before .before .before .before .before .before .before .before .before .before .before .before .before .before .before
-    .before .before .before .before .before .before .before .before .before .loop in
-    let line-of = c .before .before .before .before .before .before .before .before .before .before .before .before .before .before .before .before
-    .before .before .before .before .before .before .line-of in
-    let update-line = c .before .before .before .before .before .before .before .before .before .before .before .before .before .before .update-line
-    in
-    run-less _ _ _ _ _ _ _ (pre .right) (loop .inv .0) (line-of .result) (loop .left - 1)
-    (near (c .before .before .before .before .before .before .before .before .before .before .before .before .before .before .before .before
-    .before .before .before .before .before .before .before .before)) (line-of .ensures)
-    (update-line .ensures .yes (not-false (update-line .result .solved) (c .if1 .left)))
-
 loop-again : tie.Need-loop-again Inv-loop μ-loop
 loop-again c =
     let start = c .before .before .before .before .before .before .before .before .before .before .before .before .before .before .before .before
@@ -218,6 +201,23 @@ loop-again c =
           (update-line .kept .1 .1 .1 .1 .1 .1 .1 .1 .1 .1 .1 .1 .1 .0) ∙ loop .inv .3,
       update-line .kept .1 .1 .1 .1 .1 .1 .1 .1 .1 .1 .1 .1 .1 .1 .1 .0 ∙ loop .inv .4,
     )
+
+loop-less : tie.Need-loop-less Inv-loop μ-loop
+loop-less c =
+    let start = c .before .before .before .before .before .before .before .before .before .before .before .before .before .before .before .before
+    .before .before .before .before .before .before .before .before .before .before .before .before .before .before .before .before .before
+    .before .before .before .before .before in
+    let pre = start .pre in
+    let loop = c .before .before .before .before .before .before .before .before .before .before .before .before .before .before .before .before
+    .before .before .before .before .before .before .before .before .before .loop in
+    let line-of = c .before .before .before .before .before .before .before .before .before .before .before .before .before .before .before .before
+    .before .before .before .before .before .before .line-of in
+    let update-line = c .before .before .before .before .before .before .before .before .before .before .before .before .before .before .update-line
+    in
+    run-less _ _ _ _ _ _ _ (pre .right) (loop .inv .0) (line-of .result) (loop .left - 1)
+    (near (c .before .before .before .before .before .before .before .before .before .before .before .before .before .before .before .before
+    .before .before .before .before .before .before .before .before)) (line-of .ensures)
+    (update-line .ensures .yes (not-false (update-line .result .solved) (c .if1 .left)))
 
 same-length-7 : tie.Need-same-length-7 Inv-loop μ-loop
 same-length-7 c =
