@@ -47,13 +47,13 @@ module _ (cells : List ℕ) (b : Lent) (memo out : List ℕ) where
       rules-ready (p .0) (p .1)
 
 module _ (cells sizes memo out : List ℕ) (e : verdict (binaryLineRules cells sizes (length memo) (length out)) ≡ Fine) where
-  abbrev room : Bool
-  room = roomFor (length cells) (length memo) (length out)
+  abbrev hasRoom : Bool
+  hasRoom = roomFor (length cells) (length memo) (length out)
 
-  parts : (verdict (lengthRules (length cells)) ≡ Fine) × (verdict (blockRules (binary sizes) room) ≡ Fine) × (verdict (cellRules cells) ≡ Fine)
+  parts : (verdict (lengthRules (length cells)) ≡ Fine) × (verdict (blockRules (binary sizes) hasRoom) ≡ Fine) × (verdict (cellRules cells) ≡ Fine)
   parts =
-      let p = append-parts (lengthRules (length cells)) (blockRules (binary sizes) room ++ cellRules cells) e in
-      let q = append-parts (blockRules (binary sizes) room) (cellRules cells) (p .1) in
+      let p = append-parts (lengthRules (length cells)) (blockRules (binary sizes) hasRoom ++ cellRules cells) e in
+      let q = append-parts (blockRules (binary sizes) hasRoom) (cellRules cells) (p .1) in
       (p .0, q .0, q .1)
 
   pub binary-ready : JudgedLine cells (binary sizes) memo out

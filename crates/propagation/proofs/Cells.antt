@@ -18,9 +18,9 @@ pub room-cell : (b : List ℕ) (i : ℕ) → i < length b → room (drop i b) �
 room-cell b i h = rw (add-one i, drop-cons b i 0 h)
 
 -- the same of binary cells
-pub room-set : (b : List ℕ) (i : ℕ) → i < length b
+pub room-binary : (b : List ℕ) (i : ℕ) → i < length b
     → room (map setOf (drop i b)) ≡ (ones (setOf (getD b i 0)) - 1) + room (map setOf (drop (i + 1) b))
-room-set b i h = rw (add-one i, drop-cons b i 0 h)
+room-binary b i h = rw (add-one i, drop-cons b i 0 h)
 
 -- ---- a list mapped where it lies
 

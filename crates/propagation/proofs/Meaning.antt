@@ -12,7 +12,7 @@ use Rattle.rules.specs.Binary.{setOf, cellOf}
 use Rattle.rules.specs.Board.{On, Picture, Widest, Unsettled}
 use Rattle.rules.specs.Card.{Card, clueOf, solveStraight}
 use Rattle.rules.specs.Refusal.{Rule, verdict, written}
-use Rattle.rules.specs.Run.{room, Outcome, done, refused, Runs, boardOf, reportOf, solvedOf, Ends, Alike}
+use Rattle.rules.specs.Run.{room, Outcome, done, refused, Runs, boardOf, reportOf, solvedOf, Ends, Halts, Alike}
 use Rattle.rules.specs.declared.LinePosition.{LinePosition}
 use Rattle.rules.specs.declared.ColumnIndex.{ColumnIndex}
 use Rattle.rules.specs.declared.RowIndex.{RowIndex}
@@ -22,7 +22,6 @@ use Rattle.rules.proofs.Answers.{within-trans}
 use Rattle.rules.proofs.Binaries.{sets-back, sets-small, sets-some}
 use Rattle.rules.proofs.Cards.{straight-right, straight-full, straight-point}
 use Rattle.rules.proofs.Colours.{subset-num}
-use Rattle.rules.proofs.Leavings.{Halts}
 use Rattle.rules.proofs.Replies.{by-checking}
 use Rattle.rules.proofs.RunSteps.{runs-one, full-solved, point-solved}
 use Rattle.rules.proofs.Runs.{any-order, ends-alike}

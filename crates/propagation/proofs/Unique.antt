@@ -45,10 +45,10 @@ pub record Same (rules : List Rule) (r s : RunAnswer) (g x m k g₂ x₂ m₂ k�
   pub memos : (w : Refusal) → verdict rules ≡ Bad w → m ≡ m₂
   pub stacks : (w : Refusal) → verdict rules ≡ Bad w → k ≡ k₂
 
-one : {rules : List Rule} {o : Outcome} {board grid report memo stack g x m k g₂ x₂ m₂ k₂ : List ℕ} (r s : RunAnswer)
+ran-one : {rules : List Rule} {o : Outcome} {board grid report memo stack g x m k g₂ x₂ m₂ k₂ : List ℕ} (r s : RunAnswer)
     → Ran rules o board grid report memo stack (replyOf r) g x m k → Ran rules o board grid report memo stack (replyOf s) g₂ x₂ m₂ k₂
     → Same rules r s g x m k g₂ x₂ m₂ k₂
-one r s p q =
+ran-one r s p q =
     let a = ran-alike p q in
     record {
       answers = reply-one r s (a .0);
@@ -63,11 +63,11 @@ one r s p q =
 module _ (w h : ℕ) (s : Start) (c : Card) (grid report memo stack : List ℕ) {g x m k g₂ x₂ m₂ k₂ : List ℕ} (r r₂ : RunAnswer) where
   pub coloured-run-one : RunsColoured w h s c grid report memo stack (replyOf r) g x m k → RunsColoured w h s c grid report memo stack (replyOf r₂) g₂ x₂ m₂ k₂
       → Same (runRules w h s c grid (length report) (length memo) (length stack)) r r₂ g x m k g₂ x₂ m₂ k₂
-  coloured-run-one p q = one r r₂ p q
+  coloured-run-one p q = ran-one r r₂ p q
 
   pub binary-run-one : RunsBinary w h s c grid report memo stack (replyOf r) g x m k → RunsBinary w h s c grid report memo stack (replyOf r₂) g₂ x₂ m₂ k₂
       → Same (binaryRunRules w h s c grid (length report) (length memo) (length stack)) r r₂ g x m k g₂ x₂ m₂ k₂
-  binary-run-one p q = one r r₂ p q
+  binary-run-one p q = ran-one r r₂ p q
 
 -- ---- two calls that differ only in what memo and stack hold answer alike, and leave the same grid and report
 

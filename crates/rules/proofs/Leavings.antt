@@ -7,31 +7,22 @@ use mathlib.Core.List.{List, List·Memᴰ, List·Memᴰ·head, List·Memᴰ·tai
 use Prim.Native.Nat.{ℕ, _*_, _<_}
 use native.Mathlib.Omega.{arith}
 use lib.ListN.{length, getD}
-use Rattle.rules.specs.Answer.{Exact, Refused, Answers, Proper, Within}
+use Rattle.rules.specs.Answer.{Exact, Answers, Proper, Within}
 use Rattle.rules.specs.declared.LinePosition.{LinePosition}
-use Rattle.rules.specs.Board.{len, On, place, lineOf, store}
-use Rattle.rules.specs.Run.{Outcome, done, refused, Runs, stops, refuses, steps, boardOf}
+use Rattle.rules.specs.Board.{len, On, place, lineOf, store, NoneEmpty}
+use Rattle.rules.specs.Run.{Outcome, Runs, stops, refuses, steps, boardOf, Halts}
 use Rattle.rules.proofs.Colours.{has-nonzero}
 use Rattle.rules.proofs.Answers.{full, within-refl, within-trans}
 use Rattle.rules.proofs.Boards.{find, length-line, length-store, store-at, store-other}
 use Rattle.rules.proofs.Settled.{step-size, step-narrows}
 use Rattle.rules.proofs.Runs.{pushed-on}
 
--- no cell of a board is empty
-abbrev pub Filled : List ℕ → Type 0
-Filled b = (i : ℕ) → i < length b → getD b i 0 ≢ 0
-
--- where a run is refused: the line is one of the board, and no placement of it agrees
-abbrev pub Halts : (LinePosition → List ℕ → Type 0) → ℕ → ℕ → Outcome → Type 0
-Halts P w h (done b r k) = Unit {0}
-Halts P w h (refused l b r k) = On w h l × Refused (P l) (lineOf w h b l)
-
 module _ {P : LinePosition → List ℕ → Type 0} (w h : ℕ) (proper : (l : LinePosition) (p : List ℕ) → P l p → Proper p) (wide : 0 < w) (high : 0 < h)
     (solve : LinePosition → List ℕ → Option (List ℕ)) (right : (l : LinePosition) (c : List ℕ) → Answers (P l) c (solve l c)) where
   exact : (l : LinePosition) (b : List ℕ) {m : List ℕ} → solve l (lineOf w h b l) ≡ some m → Exact (P l) (lineOf w h b l) m
   exact l b q = subst (Answers (P l) (lineOf w h b l)) q (right l (lineOf w h b l))
 
-  step-filled : (l : LinePosition) → On w h l → (b m : List ℕ) → Exact (P l) (lineOf w h b l) m → length b ≡ h * w → Filled b → Filled (store w l m b)
+  step-filled : (l : LinePosition) → On w h l → (b m : List ℕ) → Exact (P l) (lineOf w h b l) m → length b ≡ h * w → NoneEmpty b → NoneEmpty (store w l m b)
   step-filled l o b m x size f i k = go (find (place w l) (len w h l) i)
     where
       long : length m ≡ len w h l
@@ -44,7 +35,7 @@ module _ {P : LinePosition → List ℕ → Type 0} (w h : ℕ) (proper : (l : L
 
   -- what an end says of the board b that the run began with
   abbrev Leaves : List ℕ → Outcome → Type 0
-  Leaves b o = Within (boardOf o) b × (Filled b → Filled (boardOf o))
+  Leaves b o = Within (boardOf o) b × (NoneEmpty b → NoneEmpty (boardOf o))
 
   runs-leave : {st : List LinePosition} {b r : List ℕ} {k : ℕ} {o : Outcome} → Runs w h solve st b r k o → length b ≡ h * w
       → ((l : LinePosition) → List·Memᴰ l st → On w h l) → Leaves b o
@@ -74,5 +65,5 @@ module _ {P : LinePosition → List ℕ → Type 0} (w h : ℕ) (proper : (l : L
     pub runs-within : Within (boardOf o) b
     runs-within = runs-leave d size on .0
 
-    pub runs-filled : Filled b → Filled (boardOf o)
+    pub runs-filled : NoneEmpty b → NoneEmpty (boardOf o)
     runs-filled = runs-leave d size on .1

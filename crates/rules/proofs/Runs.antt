@@ -16,7 +16,7 @@ use Rattle.rules.specs.Run.{sameLine, changed, pushAll, room, Outcome, d
 use Rattle.rules.proofs.Colours.{ones-pos}
 use Rattle.rules.proofs.Answers.{narrows, full}
 use Rattle.rules.proofs.Boards.{find, at-one, place-lt, place-inj, length-line, getD-line, store-at, store-other}
-use Rattle.rules.proofs.Settled.{step-size, step-kept, step-stable, refusal, stable-settled, kept-refl, widest-one}
+use Rattle.rules.proofs.Settled.{step-size, step-kept, step-stable, refusal-unsettled, stable-settled, kept-refl, widest-one}
 use Rattle.rules.specs.declared.LinePosition.the-variants.{Row, Column}
 use Rattle.rules.proofs.Stacks.{line-cases, mem-pushAll, cross-pushAll, pushAll-mem, length-pushAll, on-stack, changed-in, changed-not, length-fullStack, fullStack-on, on-fullStack}
 use Rattle.rules.proofs.Rooms.{room-put}
@@ -89,8 +89,8 @@ module _ {P : LinePosition → List ℕ → Type 0} (w h : ℕ) (proper : (l : L
             crosses : (i : ℕ) → i < len w h k → (j : ℕ) → j < len w h l → place w k i ≡ place w l j → k ≡ cross l j
             crosses i r j p e = ⊎-elim (λ u. absurd (d u)) (λ u. u) (meet w h k l i j q o r p e)
 
-    pub next : {b₀ : List ℕ} → Inv b₀ (l ∷ st) b → Inv b₀ (pushAll l js st) (store w l m b)
-    next {b₀} v =
+    pub inv-next : {b₀ : List ℕ} → Inv b₀ (l ∷ st) b → Inv b₀ (pushAll l js st) (store w l m b)
+    inv-next {b₀} v =
         record {
           size = step-size w h proper l o b m x size;
           kept = step-kept w h proper l o b m x size (v .kept);
@@ -150,10 +150,10 @@ module _ {P : LinePosition → List ℕ → Type 0} (w h : ℕ) (proper : (l : L
           → Ends P w h b₀ (onSome a (refused l b r k)
           (λ m. run w h solve n (pushAll l (changed 0 (lineOf w h b l) m) st) (store w l m b)
           (r ++ map (place w l) (changed 0 (lineOf w h b l) m)) (suc k)))
-      go none a up = refusal w h proper wide high (v .kept) l (v .lines l (List·Memᴰ·head refl)) a
+      go none a up = refusal-unsettled w h proper wide high (v .kept) l (v .lines l (List·Memᴰ·head refl)) a
       go (some m) a up =
           let o = v .lines l (List·Memᴰ·head refl) in
-          up _ _ _ _ (omega (arith, measure-step l st b m o a (v .size))) (next l st b m o a (v .size) v)
+          up _ _ _ _ (omega (arith, measure-step l st b m o a (v .size))) (inv-next l st b m o a (v .size) v)
 
   -- the bound on the steps cuts nothing off: from lines of the board, the run is what the rules say
   pub run-runs : (n : ℕ) (st : List LinePosition) (b r : List ℕ) (k : ℕ) → room b + length st ≤ n → length b ≡ h * w
@@ -233,14 +233,14 @@ module _ {P : LinePosition → List ℕ → Type 0} (w h : ℕ) (proper : (l : L
   point-runs x y b p q size = run-runs (room b + 2) (pointStack x y) b [] 0 (omega arith) size (point-on x y p q)
 
   -- a run from any stack beside which every line is stable
-  pub starts : (st : List LinePosition) (b : List ℕ) → length b ≡ h * w → ((l : LinePosition) → List·Memᴰ l st → On w h l)
+  pub inv-starts : (st : List LinePosition) (b : List ℕ) → length b ≡ h * w → ((l : LinePosition) → List·Memᴰ l st → On w h l)
       → ((l : LinePosition) → On w h l → List·Memᴰ l st ⊎ Stable P w h b l) → Inv b st b
-  starts st b size lines rest = record { size = size; kept = kept-refl w h proper b; lines = lines; rest = rest }
+  inv-starts st b size lines rest = record { size = size; kept = kept-refl w h proper b; lines = lines; rest = rest }
 
   pub point-right : (x y : ℕ) (b : List ℕ) → x < w → y < h → length b ≡ h * w
       → ((l : LinePosition) → On w h l → (l ≢ row y) → (l ≢ column x) → Stable P w h b l) → Ends P w h b (pointRun w h solve x y b)
   unfolding pointRun
-  point-right x y b p q size st = run-right (room b + 2) (pointStack x y) b [] 0 (omega arith) (starts (pointStack x y) b size (point-on x y p q) rest)
+  point-right x y b p q size st = run-right (room b + 2) (pointStack x y) b [] 0 (omega arith) (inv-starts (pointStack x y) b size (point-on x y p q) rest)
     where
       rest : (l : LinePosition) → On w h l → List·Memᴰ l (pointStack x y) ⊎ Stable P w h b l
       rest l o =
@@ -251,13 +251,13 @@ module _ {P : LinePosition → List ℕ → Type 0} (w h : ℕ) (proper : (l : L
   unfolding fullRun
   full-right b size =
       run-right (room b + (w + h)) (fullStack w h) b [] 0 (omega (arith, length-fullStack w h))
-      (starts (fullStack w h) b size (fullStack-on w h) (λ l o. inl (on-fullStack w h l o)))
+      (inv-starts (fullStack w h) b size (fullStack-on w h) (λ l o. inl (on-fullStack w h l o)))
 
   -- the order of lines does not matter: a run of the rules from any stack that has all lines of the board ends as demand 3 says
   pub any-order : (st : List LinePosition) (b : List ℕ) → length b ≡ h * w → ((l : LinePosition) → List·Memᴰ l st → On w h l)
       → ((l : LinePosition) → On w h l → List·Memᴰ l st) → {o : Outcome} → Runs w h solve st b [] 0 o → Ends P w h b o
   any-order st b size on all {o} d =
-      let v = starts st b size on (λ l q. inl (all l q)) in
+      let v = inv-starts st b size on (λ l q. inl (all l q)) in
       let n = room b + length st in
       subst (Ends P w h b) (runs-one w h solve (run-runs n st b [] 0 (omega arith) size on) d) (run-right n st b [] 0 (omega arith) v)
 

@@ -76,8 +76,8 @@ module _ {P : LinePosition → List ℕ → Type 0} (w h : ℕ) (proper : (l : L
         let r = some-colour (getD s (0 * w + x .0) 0) (z .filled (x .0) 0 o high) in
         let t = z .shown (x .0) 0 o high (r .0) (r .1) .1 in (t .by, t .ok)
 
-    pub refusal : {b₀ b : List ℕ} → Kept P w h b₀ b → (l : LinePosition) → On w h l → Refused (P l) (lineOf w h b l) → Unsettled P w h b₀
-    refusal q l o r =
+    pub refusal-unsettled : {b₀ b : List ℕ} → Kept P w h b₀ b → (l : LinePosition) → On w h l → Refused (P l) (lineOf w h b l) → Unsettled P w h b₀
+    refusal-unsettled q l o r =
         record { none = λ s z u. let f = some-shown z l o in r .never (f .0) (wider (proper l) (line-within w h l (q .above s z u)) (f .1)) }
 
   -- where every line is stable the board is settled

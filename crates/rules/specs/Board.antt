@@ -56,6 +56,10 @@ store w l m b = put (place w l) 0 m b
 
 -- ---- settled boards
 
+-- no cell of a board is empty
+abbrev pub NoneEmpty : List ℕ → Type 0
+NoneEmpty b = (i : ℕ) → i < length b → getD b i 0 ≢ 0
+
 module _ (P : LinePosition → List ℕ → Type 0) (w h : ℕ) where
   -- the colour 2 ^ k at index i of a line is shown by an agreeing placement of that line
   abbrev pub ShownIn : List ℕ → LinePosition → ℕ → ℕ → Type 0

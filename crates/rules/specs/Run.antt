@@ -6,7 +6,8 @@ use mathlib.Core.Option.{Option, none, some}
 use Prim.Native.Nat.{ℕ, zero, suc, _+_, _-_, _/_}
 use lib.Count.{ones}
 use lib.Dec.{eqb, leb}
-use Rattle.rules.specs.Board.{row, column, place, cross, lineOf, store, Widest, Unsettled}
+use Rattle.rules.specs.Answer.{Refused}
+use Rattle.rules.specs.Board.{row, column, On, place, cross, lineOf, store, Widest, Unsettled}
 use Rattle.rules.specs.declared.LinePosition.{LinePosition}
 use Rattle.rules.specs.declared.LinePosition.the-variants.{Row, Column}
 
@@ -132,6 +133,11 @@ module _ (P : LinePosition → List ℕ → Type 0) (w h : ℕ) where
   abbrev pub Ends : List ℕ → Outcome → Type 0
   Ends b₀ (done b r k) = Widest P w h b₀ b
   Ends b₀ (refused l b r k) = Unsettled P w h b₀
+
+  -- where a run is refused: the line is one of the board, and no placement of it agrees with the board that is left
+  abbrev pub Halts : Outcome → Type 0
+  Halts (done b r k) = Unit {0}
+  Halts (refused l b r k) = On w h l × Refused (P l) (lineOf w h b l)
 
 -- both refused, perhaps at another line, or both done on one board
 abbrev pub Alike : Outcome → Outcome → Type 0

@@ -6,10 +6,11 @@ use native.Mathlib.Omega.{arith}
 use lib.ListN.{length}
 use Rattle.rules.specs.Answer.{Proper, Within}
 use Rattle.rules.specs.Card.{Card, clueOf, Straight, solveStraight}
-use Rattle.rules.specs.Run.{room, Outcome, run, fullRun, pointRun, boardOf, reportOf, Runs}
+use Rattle.rules.specs.Board.{NoneEmpty}
+use Rattle.rules.specs.Run.{room, Outcome, run, fullRun, pointRun, boardOf, reportOf, Runs, Halts}
 use Rattle.rules.specs.declared.LinePosition.{LinePosition}
 use Rattle.rules.proofs.Cards.{straight-proper, straight-right}
-use Rattle.rules.proofs.Leavings.{Filled, Halts, runs-within, runs-filled, runs-halt}
+use Rattle.rules.proofs.Leavings.{runs-within, runs-filled, runs-halt}
 use Rattle.rules.proofs.Runs.{full-runs, point-runs, full-spent, point-spent}
 use Rattle.stack.specs.Stack.{stackOf, Lines}
 use Rattle.stack.proofs.Onces.{lines-point, lines-full}
@@ -61,7 +62,7 @@ module _ {w h : ℕ} {s : Start} {c : Card} {b report memo stack : List ℕ} (j 
       runs-within w h proper (j .grid .wide) (j .grid .high) (solveStraight w h (clueOf c)) (straight-right w h (clueOf c) (clue-legal (j .right)))
       end-runs (sized (j .grid)) (start-lines w h s (j .inside) .on)
 
-  pub left-filled : Filled b → Filled (boardOf (endOf w h s c b))
+  pub left-filled : NoneEmpty b → NoneEmpty (boardOf (endOf w h s c b))
   left-filled =
       runs-filled w h proper (j .grid .wide) (j .grid .high) (solveStraight w h (clueOf c)) (straight-right w h (clueOf c) (clue-legal (j .right)))
       end-runs (sized (j .grid)) (start-lines w h s (j .inside) .on)

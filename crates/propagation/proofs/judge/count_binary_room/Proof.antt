@@ -7,7 +7,7 @@ use lib.Count.{ones}
 use lib.ListN.{length, drop, drop-of-length-le}
 use Rattle.rules.specs.Binary.{setOf}
 use Rattle.rules.specs.Run.{room}
-use Rattle.propagation.proofs.Cells.{room-set}
+use Rattle.propagation.proofs.Cells.{room-binary}
 use borrow.Author.Needs.{needs}
 use Rattle.propagation.proofs.judge.count_binary_room.Statement.{statement}
 use Rattle.propagation.proofs.judge.count_binary_room.Tie as tie
@@ -48,7 +48,7 @@ loop-again : tie.Need-loop-again Inv-loop μ-loop
 loop-again c =
     let args = c .before .before .before .before .before .before .args in
     let loop = c .before .before .before .before .loop in
-    omega (arith, room-set (args .cells .now) (loop .i) (omega arith), c .less-one .ensures, ap ones (c .before .set-of .ensures))
+    omega (arith, room-binary (args .cells .now) (loop .i) (omega arith), c .less-one .ensures, ap ones (c .before .set-of .ensures))
 
 returns : tie.Need-returns Inv-loop μ-loop
 returns c =
