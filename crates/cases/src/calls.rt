@@ -1,6 +1,5 @@
 // The calls on blocks, clues and lines by their numbers: 1 to 5 on coloured blocks, 6 and 7 for coloured clues, 8 to 13 the same of binary
 // ones, which have no ranges, and 14 and 15 for a coloured and a binary line.
-use device::blocks::PositionsReply;
 use device::blocks::sp_binary_block_starts;
 use device::blocks::sp_binary_description;
 use device::blocks::sp_binary_partial_sums;
@@ -9,14 +8,15 @@ use device::blocks::sp_block_starts;
 use device::blocks::sp_description;
 use device::blocks::sp_partial_sums;
 use device::blocks::sp_positions_number;
-use device::clues::CluesReply;
 use device::clues::sp_binary_clue;
 use device::clues::sp_binary_clues;
 use device::clues::sp_clue;
 use device::clues::sp_clues;
-use device::count::CountReply;
 use device::lines::sp_solve_binary_line;
 use device::lines::sp_solve_line;
+use replies::clues::CluesReply;
+use replies::count::CountReply;
+use replies::number::PositionsReply;
 use vectors::lists::Picture;
 
 pub fn pack(call: u64, sizes: &[u32], colours: &[u32], sums: &mut [u64]) -> CountReply {

@@ -2,11 +2,11 @@
 use crate::Ends;
 use crate::Head;
 use crate::part;
-use device::runs::RunReply;
 use device::runs::sp_run;
 use device::runs::sp_run_binary;
 use device::runs::sp_run_binary_point;
 use device::runs::sp_run_point;
+use replies::runs::RunReply;
 
 fn run_coloured(
     head: Head,

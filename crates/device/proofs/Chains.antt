@@ -24,9 +24,9 @@ use Rattle.propagation.specs.Answered.{Answered, coloured, binary, Passed, Plac
 use Rattle.propagation.specs.Calls.{RunsColoured, RunsBinary}
 use Rattle.propagation.proofs.Meaning.{fine-passed, picture-done, picture-kept}
 use Rattle.propagation.proofs.Told.{run-fine, binary-fine, report-fine}
-use Rattle.device.specs.Replies.{Told, tellClues, tellRun}
-use Rattle.device.specs.declared.clues.CluesReply.{CluesReply}
-use Rattle.device.specs.declared.runs.RunReply.{RunReply}
+use Rattle.replies.specs.Replies.{Told, tellClues, tellRun}
+use Rattle.replies.specs.declared.clues.CluesReply.{CluesReply}
+use Rattle.replies.specs.declared.runs.RunReply.{RunReply}
 
 -- with 0 the statement holds of the answer that has the struct's counts
 clues-done : {Says : CluesAnswer → Type 0} {x : CluesReply} → Told tellClues Says x → x .number ≡ 0 → Says (Done (x .rows) (x .columns))

@@ -15,8 +15,8 @@ use Rattle.propagation.specs.Calls.{RunsColoured, RunsBinary}
 use Rattle.propagation.proofs.Meaning.{halted}
 use Rattle.propagation.proofs.Unique.{ran-alike}
 use Rattle.device.specs.Halting.{HaltedAt}
-use Rattle.device.specs.Replies.{Told, tellRun}
-use Rattle.device.specs.declared.runs.RunReply.{RunReply}
+use Rattle.replies.specs.Replies.{Told, tellRun}
+use Rattle.replies.specs.declared.runs.RunReply.{RunReply}
 use Rattle.device.proofs.Unique.{told-one}
 
 -- ---- two calls that differ only in what the memory lent to them holds answer alike

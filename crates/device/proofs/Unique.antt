@@ -13,11 +13,11 @@ use Rattle.positions.proofs.Unique.{positions-number, color-ranges}
 use Rattle.picture.specs.Calls.{BinaryClues, ColouredClues}
 use Rattle.picture.proofs.Unique.{binary-clues, coloured-clues}
 use Rattle.propagation.specs.Calls.{Ran}
-use Rattle.device.specs.Replies.{Told, tellCount, tellClues, tellPositions, tellRun}
-use Rattle.device.specs.declared.count.CountReply.{CountReply}
-use Rattle.device.specs.declared.blocks.PositionsReply.{PositionsReply}
-use Rattle.device.specs.declared.clues.CluesReply.{CluesReply}
-use Rattle.device.specs.declared.runs.RunReply.{RunReply}
+use Rattle.replies.specs.Replies.{Told, tellCount, tellClues, tellPositions, tellRun}
+use Rattle.replies.specs.declared.count.CountReply.{CountReply}
+use Rattle.replies.specs.declared.number.PositionsReply.{PositionsReply}
+use Rattle.replies.specs.declared.clues.CluesReply.{CluesReply}
+use Rattle.replies.specs.declared.runs.RunReply.{RunReply}
 
 -- where what is said has at most one answer, at most one struct tells it
 pub told-one : {A B : Type 0} {tell : A → B} {S T : A → Type 0} {a b : B} (p : Told tell S a) (q : Told tell T b) → p .answer ≡ q .answer → a ≡ b

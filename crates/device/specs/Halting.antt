@@ -12,8 +12,8 @@ use Rattle.rules.specs.declared.LinePosition.{LinePosition}
 use Rattle.run.specs.Ends.{startStack}
 use Rattle.run.specs.declared.Start.{Start}
 use Rattle.propagation.specs.Answered.{Placed}
-use Rattle.device.specs.Replies.{lineKind, lineIndex}
-use Rattle.device.specs.declared.runs.RunReply.{RunReply}
+use Rattle.replies.specs.Replies.{lineKind, lineIndex}
+use Rattle.replies.specs.declared.runs.RunReply.{RunReply}
 
 -- a struct, and the board of sets and the report that the run left: the line that the struct names is one of the board, of which no placement
 -- agrees with that board; and by the order rules the run from the board b₀ comes to this line with this board, the first entries of this

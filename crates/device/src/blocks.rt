@@ -1,36 +1,13 @@
 // A line's blocks, coloured and binary: sums, starts, positions, ranges, `Description::new`.
-use crate::count::CountReply;
-use crate::count::tell_count;
-use positions::NumberAnswer;
-use rules::refusal_number;
-ghost use mathlib.Core.Path.{_≡_};
+use replies::count::CountReply;
+use replies::count::tell_count;
+use replies::number::PositionsReply;
+use replies::number::tell_positions;
 ghost use Rattle.rules.specs.Block.{coloured, binary};
 ghost use Rattle.block.specs.Calls.{PartialSums, BlockStarts};
 ghost use Rattle.positions.specs.Calls.{PositionsNumber, ColorRanges};
 ghost use Rattle.description.specs.Calls.{ColouredDescription, BinaryDescription};
-ghost use Rattle.device.specs.Replies.{Told, tellCount, tellPositions};
-
-// Document 01's number, and in how many places the blocks lie: with a refusal 0.
-#[repr(C)]
-pub struct PositionsReply {
-    pub number: u32,
-    pub positions: u64,
-}
-
-fn tell_positions(answer: NumberAnswer) -> PositionsReply
-    ensures { λ r. ⌜ r ≡ tellPositions answer ⌝ }
-{
-    match answer {
-        NumberAnswer::Number(n) => PositionsReply {
-            number: 0,
-            positions: n,
-        },
-        NumberAnswer::Refused(w) => PositionsReply {
-            number: refusal_number(w),
-            positions: 0,
-        },
-    }
-}
+ghost use Rattle.replies.specs.Replies.{Told, tellCount, tellPositions};
 
 // The ends of the blocks in the leftmost packing.
 #[no_mangle]

@@ -1,37 +1,11 @@
 // The clue of a line and the clues of a grid, coloured and binary.
-use crate::count::CountReply;
-use crate::count::tell_count;
-use picture::CluesAnswer;
-use rules::refusal_number;
-ghost use mathlib.Core.Path.{_≡_};
+use replies::clues::CluesReply;
+use replies::clues::tell_clues;
+use replies::count::CountReply;
+use replies::count::tell_count;
 ghost use Rattle.clue.specs.Calls.{ColouredClue, BinaryClue};
 ghost use Rattle.picture.specs.Calls.{ColouredClues, BinaryClues};
-ghost use Rattle.device.specs.Replies.{Told, tellCount, tellClues};
-
-// Document 01's number, and how many blocks are written for the rows and for the columns: with a refusal 0 and 0.
-#[repr(C)]
-pub struct CluesReply {
-    pub number: u32,
-    pub rows: usize,
-    pub columns: usize,
-}
-
-fn tell_clues(answer: CluesAnswer) -> CluesReply
-    ensures { λ r. ⌜ r ≡ tellClues answer ⌝ }
-{
-    match answer {
-        CluesAnswer::Done { rows, columns } => CluesReply {
-            number: 0,
-            rows,
-            columns,
-        },
-        CluesAnswer::Refused(w) => CluesReply {
-            number: refusal_number(w),
-            rows: 0,
-            columns: 0,
-        },
-    }
-}
+ghost use Rattle.replies.specs.Replies.{Told, tellCount, tellClues};
 
 // The clue of a line of codes: its maximal runs of equal codes that are not blank.
 #[no_mangle]

@@ -1,7 +1,7 @@
 // Writes answers: document 01's number, and the values that come with 0.
-use device::blocks::PositionsReply;
-use device::clues::CluesReply;
-use device::count::CountReply;
+use replies::clues::CluesReply;
+use replies::count::CountReply;
+use replies::number::PositionsReply;
 use vectors::lists::widen;
 use vectors::report::write_number;
 use vectors::report::write_text;

@@ -4,7 +4,7 @@ use cases::Ends;
 use cases::Head;
 use cases::part;
 use cases::runs::run;
-use device::runs::RunReply;
+use replies::runs::RunReply;
 use vectors::bytes;
 use vectors::lists;
 use vectors::reader::Reader;

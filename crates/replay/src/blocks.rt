@@ -1,9 +1,9 @@
 // Replays the calls on blocks. A case has a length, sizes and colours, then the answer's value and four lists, of 32 and of 64 bits:
 // a call takes and writes those that it has, and the others are 0 and empty.
 use cases::calls;
-use device::blocks::PositionsReply;
 use device::blocks::sp_color_ranges;
-use device::count::CountReply;
+use replies::count::CountReply;
+use replies::number::PositionsReply;
 use vectors::lists;
 use vectors::lists::Found;
 use vectors::reader::Reader;

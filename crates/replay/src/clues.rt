@@ -1,8 +1,8 @@
 // Replays the calls for clues. A case has a width and a height (0 for a line), a blank code and codes, then how many blocks the rows
 // have and the columns, and counts, sizes and colours of each direction. A line's clue stands in the rows' sizes and colours.
 use cases::calls;
-use device::clues::CluesReply;
-use device::count::CountReply;
+use replies::clues::CluesReply;
+use replies::count::CountReply;
 use vectors::lists;
 use vectors::lists::Found;
 use vectors::lists::Picture;

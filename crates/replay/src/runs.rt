@@ -3,7 +3,7 @@
 use cases::Ends;
 use cases::Head;
 use cases::runs::run;
-use device::runs::RunReply;
+use replies::runs::RunReply;
 use vectors::bytes;
 use vectors::lists;
 use vectors::lists::Found;

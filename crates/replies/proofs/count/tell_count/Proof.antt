@@ -1,9 +1,9 @@
 -- `count::tell_count` meets its contract: by the kind of the answer.
 use mathlib.Core.Path.{sym, ap, _∙_}
-use Rattle.device.specs.Replies.{tellCount}
+use Rattle.replies.specs.Replies.{tellCount}
 use borrow.Author.Needs.{needs}
-use Rattle.device.proofs.count.tell_count.Statement.{statement}
-use Rattle.device.proofs.count.tell_count.Tie as tie
+use Rattle.replies.proofs.count.tell_count.Statement.{statement}
+use Rattle.replies.proofs.count.tell_count.Tie as tie
 
 enum-known-answer : tie.Need-enum-known-answer
 enum-known-answer c = search needs

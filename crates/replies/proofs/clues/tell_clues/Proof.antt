@@ -1,9 +1,9 @@
 -- `clues::tell_clues` meets its contract: by the kind of the answer.
 use mathlib.Core.Path.{sym, ap, _∙_}
-use Rattle.device.specs.Replies.{tellClues}
+use Rattle.replies.specs.Replies.{tellClues}
 use borrow.Author.Needs.{needs}
-use Rattle.device.proofs.clues.tell_clues.Statement.{statement}
-use Rattle.device.proofs.clues.tell_clues.Tie as tie
+use Rattle.replies.proofs.clues.tell_clues.Statement.{statement}
+use Rattle.replies.proofs.clues.tell_clues.Tie as tie
 
 enum-known-answer : tie.Need-enum-known-answer
 enum-known-answer c = search needs

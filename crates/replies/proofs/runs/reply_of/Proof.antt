@@ -2,10 +2,10 @@
 use mathlib.Core.Path.{sym, ap, _∙_}
 use mathlib.Core.Option.{none}
 use Rattle.run.specs.Ends.{replyOf}
-use Rattle.device.specs.Replies.{tellRun}
+use Rattle.replies.specs.Replies.{tellRun}
 use borrow.Author.Needs.{needs}
-use Rattle.device.proofs.runs.reply_of.Statement.{statement}
-use Rattle.device.proofs.runs.reply_of.Tie as tie
+use Rattle.replies.proofs.runs.reply_of.Statement.{statement}
+use Rattle.replies.proofs.runs.reply_of.Tie as tie
 
 enum-known-answer : tie.Need-enum-known-answer
 enum-known-answer c = search needs

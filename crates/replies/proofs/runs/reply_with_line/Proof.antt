@@ -1,10 +1,10 @@
 -- `runs::reply_with_line` meets its contract: by the kind of the line.
 use mathlib.Core.Path.{sym, ap}
 use mathlib.Core.Option.{some}
-use Rattle.device.specs.Replies.{tellRun}
+use Rattle.replies.specs.Replies.{tellRun}
 use borrow.Author.Needs.{needs}
-use Rattle.device.proofs.runs.reply_with_line.Statement.{statement}
-use Rattle.device.proofs.runs.reply_with_line.Tie as tie
+use Rattle.replies.proofs.runs.reply_with_line.Statement.{statement}
+use Rattle.replies.proofs.runs.reply_with_line.Tie as tie
 
 enum-known-line : tie.Need-enum-known-line
 enum-known-line c = search needs

@@ -2,7 +2,7 @@
 use rules::ListAnswer;
 use rules::refusal_number;
 ghost use mathlib.Core.Path.{_≡_};
-ghost use Rattle.device.specs.Replies.{tellCount};
+ghost use Rattle.replies.specs.Replies.{tellCount};
 
 // Document 01's number, and how many entries of each list are written: with a refusal 0.
 #[repr(C)]
@@ -11,7 +11,7 @@ pub struct CountReply {
     pub count: usize,
 }
 
-pub(crate) fn tell_count(answer: ListAnswer) -> CountReply
+pub fn tell_count(answer: ListAnswer) -> CountReply
     ensures { λ r. ⌜ r ≡ tellCount answer ⌝ }
 {
     match answer {

@@ -12,10 +12,10 @@ use Rattle.positions.specs.declared.NumberAnswer.the-variants as number
 use Rattle.picture.specs.declared.CluesAnswer.{CluesAnswer}
 use Rattle.picture.specs.declared.CluesAnswer.the-variants as clues
 use Rattle.run.specs.Ends.{Reply}
-use Rattle.device.specs.declared.count.CountReply.{CountReply}
-use Rattle.device.specs.declared.blocks.PositionsReply.{PositionsReply}
-use Rattle.device.specs.declared.clues.CluesReply.{CluesReply}
-use Rattle.device.specs.declared.runs.RunReply.{RunReply}
+use Rattle.replies.specs.declared.count.CountReply.{CountReply}
+use Rattle.replies.specs.declared.number.PositionsReply.{PositionsReply}
+use Rattle.replies.specs.declared.clues.CluesReply.{CluesReply}
+use Rattle.replies.specs.declared.runs.RunReply.{RunReply}
 
 -- r is what an answer tells of which the call's own statement holds
 pub record Told {A B : Type 0} (tell : A → B) (Says : A → Type 0) (r : B) : Type 0 where

@@ -1,9 +1,9 @@
--- `blocks::tell_positions` meets its contract: by the kind of the answer.
+-- `number::tell_positions` meets its contract: by the kind of the answer.
 use mathlib.Core.Path.{sym, ap, _∙_}
-use Rattle.device.specs.Replies.{tellPositions}
+use Rattle.replies.specs.Replies.{tellPositions}
 use borrow.Author.Needs.{needs}
-use Rattle.device.proofs.blocks.tell_positions.Statement.{statement}
-use Rattle.device.proofs.blocks.tell_positions.Tie as tie
+use Rattle.replies.proofs.number.tell_positions.Statement.{statement}
+use Rattle.replies.proofs.number.tell_positions.Tie as tie
 
 enum-known-answer : tie.Need-enum-known-answer
 enum-known-answer c = search needs

@@ -1,0 +1,5 @@
+// What answers are over C: a struct for each kind of answer, and the one struct that tells each answer.
+pub mod clues;
+pub mod count;
+pub mod number;
+pub mod runs;
