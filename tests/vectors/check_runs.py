@@ -14,6 +14,7 @@ from drawing_runs import draw_cases
 from make_runs import ask, compare_with_reading
 from reading import MOST_LENGTH
 from reading_runs import RUN_CALLS, order_lines
+from usage import need_arguments
 
 
 def ask_orders(driver, sides):
@@ -53,10 +54,13 @@ def check_seed(seed, stable_driver, untouched_driver, counts):
 
 
 def main():
+    need_arguments(4, __doc__)
     stable_driver, untouched_driver = sys.argv[1:3]
+    print("asking for the orders of lines", file=sys.stderr)
     check_orders(stable_driver, untouched_driver)
     counts = Counter()
     for seed in range(int(sys.argv[3]), int(sys.argv[4]) + 1):
+        print(f"seed {seed}", file=sys.stderr)
         check_seed(seed, stable_driver, untouched_driver, counts)
     for call, told in RUN_CALLS.items():
         done, unsolvable, same = counts[call, 0], counts[call, 8], counts[call, "same"]

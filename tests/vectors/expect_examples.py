@@ -8,9 +8,11 @@ import sys
 import example_blocks
 import example_lines
 import example_runs
+from usage import need_arguments
 
 
 def main():
+    need_arguments(1, __doc__)
     what = sys.argv[1]
     for layer in example_blocks, example_lines, example_runs:
         for item in layer.all_cases():

@@ -8,9 +8,11 @@ from collections import Counter
 
 from reading import CALLS, LINE_CALLS
 from reading_runs import RUN_CALLS
+from usage import need_arguments
 
 
 def main():
+    need_arguments(1, __doc__)
     with open(sys.argv[1]) as sample:
         lines = [line.split("#")[0].split() for line in sample]
     cases = Counter(int(words[0]) for words in lines if words)

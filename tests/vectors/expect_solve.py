@@ -1,7 +1,10 @@
 """Writes what the program solve must print for cards: an independent reading of their format and of document 01's runs.
 
-Usage: expect_solve.py FOLDER < args > stdout. The names of the cards stand one a line on standard input, as the program's arguments; a name
-that is no file of the folder cannot be opened, or read. With no name, or one, no name stands above an answer.
+Usage: expect_solve.py FOLDER < args > stdout. The names of the cards, which are files of the folder, stand one a line on standard input, as
+the program's arguments. `-` is the program's standard input: the file `stdin` beside the folder, and empty where there is none.
+With one name alone, it does not stand above its answer.
+
+A card is read as cards/README.md says, byte by byte; nothing was taken from the program's own reader.
 """
 
 import os
@@ -10,46 +13,71 @@ import sys
 
 from reading import LEAST_MEMO
 from reading_runs import LEAST_STACK, ROW, Card, Rooms, room_number, run
+from usage import need_arguments
 
 BLACK_WORD = "#"
+BLANKS, MARK = b" \t\r", b"\xef\xbb\xbf"
+SIDE_OF = {"rows": "height", "columns": "width"}
+# What stands before a line, where it matters: a list's last line, or a goal. Else it is a number, the line of a word alone, or None.
+LIST, GOAL = "list", "goal"
 MOST_SIDE, MOST_BLOCKS, MOST_COLOURS, MOST_NUMBER, MOST_BYTES = 64, 64, 31, 2**32 - 1, 4096
 
 
 class Fault(Exception):
-    """What is wrong with a card."""
+    """What is wrong with a card, and the line that is at fault where it is not the one at hand."""
+
+    def __init__(self, text, place=None):
+        super().__init__(text)
+        self.place = place
 
 
-def join_words(text):
+def join_words(line):
     """A line without its comment, and without blanks but one between two words."""
-    words = " ".join(text.split("#")[0].split())
-    return re.sub(r"(?<![A-Za-z0-9]) | (?![A-Za-z0-9])", "", words)
+    words = re.sub(rb"[ \t\r]+", b" ", line.split(b"#")[0])
+    return re.sub(rb"(?<![A-Za-z0-9]) | (?![A-Za-z0-9])", b"", words)
 
 
 def read_number(digits):
-    if int(digits) > MOST_NUMBER:
+    digits = digits.lstrip(b"0") or b"0"
+    if len(digits) > len(str(MOST_NUMBER)) or int(digits) > MOST_NUMBER:
         raise Fault("a number is too large")
     return int(digits)
 
 
 class Reading:
-    """A card as far as it was read: its sides, each list's clues with the lines of the file where they stand, and its colours' words."""
+    """A card as far as it was read: its sides, each list's clues with the lines of the file where they stand, and its colours' words.
+
+    With these go what stands before the next line, and how many empty lines are at the front of the list that was begun last.
+    """
 
     def __init__(self):
         self.sides = {}
         self.lists = {}
         self.places = {"rows": [], "columns": []}
         self.words = []
+        self.before = None
+        self.front = 0
 
     def wanted(self):
         """The list that has begun and wants lines."""
-        sides = {"rows": "height", "columns": "width"}
-        names = [name for name in self.lists if len(self.lists[name]) < self.sides[sides[name]]]
+        names = [name for name in self.lists if len(self.lists[name]) < self.sides[SIDE_OF[name]]]
         return names[0] if names else None
 
-    def take_side(self, key, rest):
+    def make_room(self, text):
+        """The full list that takes a line of sizes right after its last: an empty line at its front was none, and is taken out."""
+        if not self.front or self.before != LIST or not text[:1].isdigit():
+            return None
+        name = list(self.lists)[-1]
+        self.front -= 1
+        del self.lists[name][0], self.places[name][0]
+        return name
+
+    def take_side(self, key, rest, cut):
         if key in self.sides:
             raise Fault("this side was given before")
-        found = re.fullmatch(r" (\d+)(.*)", rest)
+        if cut:
+            raise Fault("the line is too long")
+        found = re.fullmatch(rb" (\d+)(.*)", rest)
         if not found:
             raise Fault("a number is missing")
         side = read_number(found[1])
@@ -64,20 +92,27 @@ class Reading:
             raise Fault("this text is not understood")
         if key in self.lists:
             raise Fault("this list was given before")
-        if {"rows": "height", "columns": "width"}[key] not in self.sides:
+        if SIDE_OF[key] not in self.sides:
             raise Fault("height must stand before rows, and width before columns")
         self.lists[key] = []
+        self.front = 0
 
-    def take_heading(self, text):
-        if text[0].isdigit():
+    def refuse_sizes(self):
+        if self.before in (None, LIST, GOAL):
             raise Fault("sizes stand outside the lists: a line too many")
-        key = re.match(r"[A-Za-z]*", text)[0]
+        raise Fault("this line begins no list, and sizes follow it", self.before)
+
+    def take_heading(self, text, cut, place):
+        if text[:1].isdigit():
+            self.refuse_sizes()
+        key = re.match(rb"[A-Za-z]*", text)[0].lower().decode()
         if not key:
             raise Fault("this text is not understood")
-        if key in ("width", "height"):
-            self.take_side(key, text[len(key) :])
-        elif key in ("rows", "columns"):
+        if key in SIDE_OF.values():
+            self.take_side(key, text[len(key) :], cut)
+        elif key in SIDE_OF:
             self.begin_list(key, text[len(key) :])
+        self.before = GOAL if key == "goal" else place if text.isalpha() else None
 
     def colour_of(self, word):
         if word not in self.words:
@@ -88,17 +123,17 @@ class Reading:
 
     def take_block(self, text):
         """The block at the front of a text, and what stands after it."""
-        digits = re.match(r"\d*", text)[0]
+        digits = re.match(rb"\d*", text)[0]
         if not digits:
-            if re.match(r"[A-Za-z]", text):
+            if text[:1].isalpha():
                 raise Fault("a list has too few lines")
-            raise Fault("this text is not understood" if text and text[0] not in ",:" else "a size is missing")
+            raise Fault("a size is missing" if text[:1] in (b"", b",", b":") else "this text is not understood")
         size = read_number(digits)
         if size == 0:
             raise Fault("a block has size 0 (4)")
         rest, word = text[len(digits) :], BLACK_WORD
-        if rest.startswith(":"):
-            word = re.match(r"[A-Za-z0-9]*", rest[1:])[0]
+        if rest.startswith(b":"):
+            word = re.match(rb"[A-Za-z0-9]*", rest[1:])[0].decode()
             rest = rest[1 + len(word) :]
             if not word:
                 raise Fault("a colour is missing after a colon")
@@ -109,7 +144,7 @@ class Reading:
     def take_clue(self, name, text, place):
         if len(text) > MOST_BYTES:
             raise Fault("the line is too long")
-        blocks, rest = [], "" if text == "0" else text
+        blocks, rest = [], b"" if text == b"0" else text
         while rest:
             if len(blocks) == MOST_BLOCKS:
                 raise Fault("the line has more than 64 blocks (3)")
@@ -117,19 +152,24 @@ class Reading:
             blocks.append(block)
             if not rest:
                 break
-            if rest[0] != ",":
-                raise Fault("a comma is missing" if rest[0] == " " else "this text is not understood")
+            if rest[:1] != b",":
+                raise Fault("a comma is missing" if rest[:1] == b" " else "this text is not understood")
             if len(blocks) == MOST_BLOCKS:
                 raise Fault("the line has more than 64 blocks (3)")
-            rest = rest[1:] or self.take_block("")
+            rest = rest[1:] or self.take_block(b"")
+        self.front += not text and self.front == len(self.lists[name])
         self.lists[name].append(blocks)
         self.places[name].append(place)
 
     def take_line(self, text, place):
-        if self.wanted():
-            self.take_clue(self.wanted(), text, place)
-        elif text:
-            self.take_heading(text)
+        name = self.wanted() or self.make_room(text)
+        if name:
+            self.take_clue(name, text, place)
+            self.before = LIST
+        elif not text:
+            self.before = None if self.before == LIST else self.before
+        elif self.before != GOAL or not re.fullmatch(rb'[0-9" ]*', text[:MOST_BYTES]):
+            self.take_heading(text[:MOST_BYTES], len(text) > MOST_BYTES, place)
 
     def judge_end(self):
         for side in "width", "height":
@@ -142,22 +182,22 @@ class Reading:
             raise Fault("a list has too few lines")
 
 
-def read_card(text):
-    """The card, or in its place the line that says what is wrong."""
-    reading, lines = Reading(), text.split("\n")
+def read_card(name, content):
+    """The card in the bytes of a file, or in its place the line that says what is wrong."""
+    reading, lines = Reading(), content.removeprefix(MARK).split(b"\n")
     if not lines[-1]:
         lines.pop()
     for number, line in enumerate(lines, 1):
-        if line.strip().startswith("#"):
+        if line.strip(BLANKS).startswith(b"#"):
             continue
         try:
             reading.take_line(join_words(line), number)
         except Fault as fault:
-            return f"bad card, line {number}: {fault}"
+            return f"bad card, {name}, line {fault.place or number}: {fault}"
     try:
         reading.judge_end()
     except Fault as fault:
-        return f"bad card, end of the file after line {len(lines)}: {fault}"
+        return f"bad card, {name}, end of the file after line {len(lines)}: {fault}"
     return reading
 
 
@@ -194,18 +234,40 @@ def solve(reading):
     return [*text, told if count else f"solved: every cell is known, {end.lines} lines solved"]
 
 
+def name_shown(name):
+    return "standard input" if name == "-" else name
+
+
+def file_bytes(folder, name):
+    path = os.path.join(folder, os.pardir, "stdin") if name == "-" else os.path.join(folder, name)
+    if name == "-" and not os.path.exists(path):
+        return b""
+    with open(path, "rb") as file:
+        return file.read()
+
+
+def answer(folder, name):
+    """What is printed of a file: a card's board, or what is wrong."""
+    try:
+        reading = read_card(name_shown(name), file_bytes(folder, name))
+    except FileNotFoundError:
+        return [f"bad card, {name}: there is no such file"]
+    except IsADirectoryError:
+        return [f"bad card, {name}: the file cannot be read"]
+    return [reading] if isinstance(reading, str) else solve(reading)
+
+
+def show(answers):
+    """All that is printed of files, each given by its name and lines: where there are several, the name stands above the lines."""
+    head = lambda name: [f"== {name_shown(name)} =="] if len(answers) > 1 else []
+    return "".join(f"{line}\n" for name, lines in answers for line in [*head(name), *lines])
+
+
 def main():
+    need_arguments(1, __doc__)
     names = sys.stdin.read().split()
-    for name in names:
-        if len(names) > 1:
-            print(f"== {name} ==")
-        path = os.path.join(sys.argv[1], name)
-        if not os.path.isfile(path):
-            print("bad card, the file cannot be read" if os.path.isdir(path) else "bad card, the file cannot be opened")
-            continue
-        with open(path, encoding="latin-1", newline="") as file:
-            reading = read_card(file.read())
-        print(reading if isinstance(reading, str) else "\n".join(solve(reading)))
+    print(show([(name, answer(sys.argv[1], name)) for name in names]), end="")
 
 
-main()
+if __name__ == "__main__":
+    main()

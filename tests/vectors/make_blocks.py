@@ -11,6 +11,7 @@ import sys
 
 from drawing import fill_blocks
 from reading import CALLS
+from usage import need_arguments
 
 SEED = int(sys.argv[2]) if len(sys.argv) > 2 else 7301
 MOST_CODE = 2**32 - 1
@@ -316,6 +317,7 @@ def list_clues(call, answer):
 
 
 def main():
+    need_arguments(1, __doc__)
     cases = draw_cases()
     answers = ask(sys.argv[1], cases)
     for (call, inputs), answer in zip(cases, answers):

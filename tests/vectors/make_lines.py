@@ -11,6 +11,7 @@ import sys
 
 from drawing import fill_blocks
 from reading import BINARY_SETS, BLACK, BLANK, LEAST_MEMO, LINE_CALLS
+from usage import need_arguments
 
 SEED = int(sys.argv[2]) if len(sys.argv) > 2 else 7302
 COLOURED, BINARY = 14, 15
@@ -209,6 +210,7 @@ def write_case(call, inputs, answer):
 
 
 def main():
+    need_arguments(1, __doc__)
     cases = draw_cases()
     answers = ask(sys.argv[1], cases)
     for (call, inputs), answer in zip(cases, answers):

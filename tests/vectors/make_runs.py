@@ -11,6 +11,7 @@ import sys
 from drawing_runs import draw_cases
 from reading import LEAST_MEMO
 from reading_runs import COLUMN, LEAST_STACK, ROW, RUN_CALLS, Ending, Rooms, room_number
+from usage import need_arguments
 
 FIRST_SEED = 7303
 # How the driver and the file write a kind of line.
@@ -92,6 +93,7 @@ def write_header(seed, cases, answers):
 
 
 def main():
+    need_arguments(1, __doc__)
     seed = int(sys.argv[2]) if len(sys.argv) > 2 else FIRST_SEED
     cases = draw_cases(seed)
     answers = ask(sys.argv[1], cases)

@@ -1,19 +1,22 @@
 // One line of the rows or the columns: its blocks are stored, with their colours.
+use crate::before;
 use crate::blocks::After;
 use crate::blocks::Block;
 use crate::blocks::look_after;
 use crate::blocks::read_block;
 use crate::faults;
 use crate::faults::Fault;
-use crate::layout::BEGUN;
+use crate::layout::BEFORE;
 use crate::layout::BLOCKS;
 use crate::layout::COLOURS;
 use crate::layout::COUNTS;
+use crate::layout::DROPPED;
+use crate::layout::EMPTY;
 use crate::layout::PLACES;
 use crate::layout::READ;
 use crate::layout::ROOM;
-use crate::layout::SIDE;
 use crate::layout::SIZES;
+use crate::layout::WANTED;
 use crate::palette::know_word;
 ghost use Prim.Native.Nat.{_≤_};
 
@@ -24,10 +27,23 @@ const MOST_BLOCKS: u32 = 64;
 pub(crate) fn is_wanted(card: &[u32; ROOM], way: usize) -> bool
     requires { ⌜ way ≤ 1 ⌝ }
 {
-    if card[BEGUN + way] > 0 {
-        return card[READ + way] < card[SIDE + way];
+    card[WANTED + way] > 0
+}
+
+// Takes out an empty line that a full list begins with, if there is one: the list then wants a line.
+pub(crate) fn drop_empty(card: &mut [u32; ROOM], way: usize)
+    requires { ⌜ way ≤ 1 ⌝ }
+{
+    let dropped = card[DROPPED + way];
+    if is_wanted(card, way) {
+        return;
     }
-    false
+    if dropped < 64 {
+        if dropped < card[EMPTY + way] {
+            card[DROPPED + way] = dropped + 1;
+            card[WANTED + way] = 1;
+        }
+    }
 }
 
 // Stores a block after those of its way.
@@ -61,16 +77,40 @@ fn take_block(text: &[u8], at: usize, card: &mut [u32; ROOM], way: usize) -> Aft
     }
 }
 
+// Counts a line off those that a list wants.
+fn want_less(card: &mut [u32; ROOM], way: usize)
+    requires { ⌜ way ≤ 1 ⌝ }
+{
+    let wanted = card[WANTED + way];
+    if wanted > 0 {
+        card[WANTED + way] = wanted - 1;
+    }
+}
+
 // Notes that a line of a way was read: its number of blocks, and the line of the file.
 fn end_clue(card: &mut [u32; ROOM], way: usize, count: u32, line: u32)
     requires { ⌜ way ≤ 1 ⌝ }
 {
     let read = card[READ + way];
-    if read < 64 {
-        let index = way * 64 + read as usize;
+    if read < 128 {
+        let index = way * 128 + read as usize;
         card[COUNTS + index] = count;
         card[PLACES + index] = line;
         card[READ + way] = read + 1;
+    }
+    want_less(card, way);
+    card[BEFORE] = before::line_of(way);
+}
+
+// Counts an empty line where none but empty lines stand before it in its list.
+pub(crate) fn count_empty(card: &mut [u32; ROOM], way: usize)
+    requires { ⌜ way ≤ 1 ⌝ }
+{
+    let read = card[READ + way];
+    if read < 64 {
+        if card[EMPTY + way] == read {
+            card[EMPTY + way] = read + 1;
+        }
     }
 }
 

@@ -48,6 +48,8 @@ pub(crate) const NO_ROWS: Fault = 20;
 
 pub(crate) const NO_COLUMNS: Fault = 21;
 
+pub(crate) const NO_LIST: Fault = 22;
+
 // Where the line that begins at a byte ends.
 fn end_line(texts: &[u8], from: usize) -> usize {
     let mut end = from;
@@ -103,7 +105,8 @@ pub fn write_fault(fault: Fault) {
           there is no width\n\
           there is no height\n\
           there are no rows\n\
-          there are no columns\n",
+          there are no columns\n\
+          this line begins no list, and sizes follow it\n",
         fault,
     );
 }

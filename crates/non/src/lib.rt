@@ -2,6 +2,8 @@
 //
 // Such a file has the lines `width N` and `height N`, and the lists `rows` and `columns`: a line of sizes for each row or column, with
 // commas between them. A block of colour c is written `size:c`. `#` starts a comment, and a line with any other key is passed over.
+// cards/README.md has the rules.
+mod before;
 mod blocks;
 mod clues;
 pub mod faults;
@@ -11,11 +13,15 @@ pub mod palette;
 mod pieces;
 mod words;
 
+use clues::count_empty;
+use clues::drop_empty;
 use clues::is_wanted;
 use clues::take_clue;
 use faults::Fault;
+use headings::blame;
 use headings::judge_end;
 use headings::take_heading;
+use layout::BEFORE;
 use layout::COLUMNS;
 use layout::ROOM;
 use layout::ROWS;
@@ -23,6 +29,7 @@ use pieces::Found;
 use pieces::Next;
 use pieces::next_line;
 use pieces::open;
+use words::is_digit;
 ghost use Prim.Native.Nat.{_≤_};
 
 // What a file holds: a card; or a fault in a line of it; or one that shows at its end, after that line; or nothing that can be read.
@@ -45,18 +52,36 @@ fn take_listed(text: &[u8], cut: bool, line: u32, card: &mut [u32; ROOM], way: u
     if cut {
         return faults::LONG_LINE;
     }
+    if text.len() == 0 {
+        count_empty(card, way);
+    }
     take_clue(text, line, card, way)
+}
+
+// Where sizes stand right after a full list which begins with an empty line, that line was none of the list, and they belong to it.
+fn make_room(text: &[u8], card: &mut [u32; ROOM]) {
+    if text.len() == 0 {
+        return;
+    }
+    if is_digit(text[0]) {
+        match card[BEFORE] {
+            before::ROW => drop_empty(card, ROWS),
+            before::COLUMN => drop_empty(card, COLUMNS),
+            _ => {}
+        }
+    }
 }
 
 // Takes a line of the file that is not a comment alone.
 fn take_line(text: &[u8], cut: bool, line: u32, card: &mut [u32; ROOM]) -> Fault {
+    make_room(text, card);
     if is_wanted(card, ROWS) {
         return take_listed(text, cut, line, card, ROWS);
     }
     if is_wanted(card, COLUMNS) {
         return take_listed(text, cut, line, card, COLUMNS);
     }
-    take_heading(text, card)
+    take_heading(text, cut, line, card)
 }
 
 // Takes the first bytes of a text as a line.
@@ -77,6 +102,7 @@ fn take_next(next: Next, text: &[u8], card: &mut [u32; ROOM]) -> Step {
             if fault == faults::NONE {
                 return Step::Going;
             }
+            let line = blame(fault, line, card);
             Step::Ended(Outcome::BadLine { fault, line })
         }
         Found::Comment => Step::Going,

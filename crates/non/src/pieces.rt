@@ -13,9 +13,11 @@ pub(crate) struct Place {
     pub(crate) line: u32,
 }
 
-// A line as far as it was read: how many bytes were kept; whether the last of them is of a word; whether blanks stand after it; whether a
-// comment has begun; whether a byte found no room.
+// A line as far as it was read: how many bytes of a byte order mark are all of the file so far, or 3 where there was anything else; how many
+// bytes were kept; whether the last of them is of a word; whether blanks stand after it; whether a comment has begun; whether a byte found
+// no room.
 struct Kept {
+    mark: u8,
     length: usize,
     word: bool,
     blank: bool,
@@ -114,6 +116,40 @@ fn keep(text: &mut [u8; 4096], kept: Kept, byte: u8) -> Kept {
     }
 }
 
+// The count of the mark's bytes, which are 0xef 0xbb 0xbf, after one more byte that does not end it.
+fn count_mark(mark: u8, byte: u8) -> u8 {
+    if mark == 0 && byte == 0xef {
+        return 1;
+    }
+    if mark == 1 && byte == 0xbb {
+        return 2;
+    }
+    3
+}
+
+// A line of which nothing was read.
+fn begin_line(mark: u8) -> Kept {
+    Kept {
+        mark,
+        length: 0,
+        word: false,
+        blank: false,
+        comment: false,
+        cut: false,
+    }
+}
+
+// Keeps a byte, unless a byte order mark ends with it: then the first line begins after it.
+fn keep_next(text: &mut [u8; 4096], kept: Kept, byte: u8) -> Kept {
+    let mark = kept.mark;
+    if mark == 2 && byte == 0xbf {
+        return begin_line(3);
+    }
+    let mut kept = keep(text, kept, byte);
+    kept.mark = count_mark(mark, byte);
+    kept
+}
+
 fn end_line(kept: Kept, place: Place) -> Next {
     let mut place = place;
     if place.line < u32::MAX {
@@ -152,13 +188,7 @@ fn end_file(kept: Kept, place: Place) -> Next {
 // The next line of the file. The count of turns only shows that the loop ends, since nothing says that a line does.
 pub(crate) fn next_line(buffer: &mut [u8; 4096], start: Place, text: &mut [u8; 4096]) -> Next {
     let mut place = start;
-    let mut kept = Kept {
-        length: 0,
-        word: false,
-        blank: false,
-        comment: false,
-        cut: false,
-    };
+    let mut kept = begin_line(if start.line == 0 { 0 } else { 3 });
     let mut left = u64::MAX;
     while left > 0 {
         left -= 1;
@@ -172,7 +202,7 @@ pub(crate) fn next_line(buffer: &mut [u8; 4096], start: Place, text: &mut [u8; 4
         if byte == b'\n' {
             return end_line(kept, place);
         }
-        kept = keep(text, kept, byte);
+        kept = keep_next(text, kept, byte);
     }
     end_line(kept, place)
 }

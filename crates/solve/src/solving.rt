@@ -165,7 +165,8 @@ fn show_board(card: &[u32; ROOM], coloured: bool, grid: &[u32]) -> usize {
     count_open(grid, coloured)
 }
 
-fn show_answer(answer: RunAnswer, card: &[u32; ROOM], coloured: bool, grid: &[u32]) {
+// Shows what a run answers. Nothing is shown where it refuses the card, and its number is told; else 0.
+fn show_answer(answer: RunAnswer, card: &[u32; ROOM], coloured: bool, grid: &[u32]) -> u32 {
     match answer {
         RunAnswer::Done { entries: _, lines } => {
             let open = show_board(card, coloured, grid);
@@ -175,6 +176,7 @@ fn show_answer(answer: RunAnswer, card: &[u32; ROOM], coloured: bool, grid: &[u3
                 write_open(open, grid.len());
             }
             write_lines(lines);
+            0
         }
         RunAnswer::Unsolvable {
             line,
@@ -184,12 +186,9 @@ fn show_answer(answer: RunAnswer, card: &[u32; ROOM], coloured: bool, grid: &[u3
             write_line(line, card);
             write_open(show_board(card, coloured, grid), grid.len());
             write_lines(lines);
+            0
         }
-        RunAnswer::Refused(refusal) => {
-            write_text(b"bad card, the run refuses it: ");
-            write_number(refusal_number(refusal) as usize);
-            write_text(b"\n");
-        }
+        RunAnswer::Refused(refusal) => refusal_number(refusal),
     }
 }
 
@@ -201,24 +200,26 @@ fn first_cell(card: &[u32; ROOM], coloured: bool) -> u32 {
     0
 }
 
-fn solve_grid(card: &[u32; ROOM], grid: &mut [u32]) {
+fn solve_grid(card: &[u32; ROOM], grid: &mut [u32]) -> u32 {
     let coloured = is_coloured(card);
     fill(grid, first_cell(card, coloured));
     let mut report = [0u32; REPORT];
     let mut memo = [0u8; MEMO];
     let mut stack = [0u32; STACK];
     let answer = run_card(card, coloured, grid, &mut report, &mut memo, &mut stack);
-    show_answer(answer, card, coloured, grid);
+    show_answer(answer, card, coloured, grid)
 }
 
 // Solves a card on the first cells of a grid.
-fn solve_first(card: &[u32; ROOM], grid: &mut [u32], cells: usize) {
+fn solve_first(card: &[u32; ROOM], grid: &mut [u32], cells: usize) -> u32 {
     if cells <= grid.len() {
-        solve_grid(card, &mut grid[0..cells]);
+        return solve_grid(card, &mut grid[0..cells]);
     }
+    0
 }
 
-pub(crate) fn solve_card(card: &[u32; ROOM]) {
+// Solves a card and shows its board. The answer is 0, or the number of a run that refuses it.
+pub(crate) fn solve_card(card: &[u32; ROOM]) -> u32 {
     let mut grid = [0u32; 4096];
-    solve_first(card, &mut grid, count_cells(card));
+    solve_first(card, &mut grid, count_cells(card))
 }

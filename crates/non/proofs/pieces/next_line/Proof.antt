@@ -9,6 +9,9 @@ Inv-loop buffer₀ text₀ place₀ kept₀ left₀ buffer text place kept left 
 abbrev μ-loop : tie.MeasureT-loop
 μ-loop buffer₀ text₀ place₀ kept₀ left₀ buffer text place kept left = left
 
+begin-line-requires : tie.Need-begin-line-requires Inv-loop μ-loop
+begin-line-requires c κs = search needs
+
 loop-holds : tie.Need-loop-holds Inv-loop μ-loop
 loop-holds c = search needs
 
@@ -36,8 +39,8 @@ end-line-requires c κs = search needs
 returns-2 : tie.Need-returns-2 Inv-loop μ-loop
 returns-2 c = search needs
 
-keep-requires : tie.Need-keep-requires Inv-loop μ-loop
-keep-requires c κs = search needs
+keep-next-requires : tie.Need-keep-next-requires Inv-loop μ-loop
+keep-next-requires c κs = search needs
 
 loop-less : tie.Need-loop-less Inv-loop μ-loop
 loop-less c = search needs
@@ -57,6 +60,7 @@ next-line-spec =
     (tie.spec
     Inv-loop
     μ-loop
+    begin-line-requires
     loop-holds
     sub-left
     fill-requires
@@ -66,7 +70,7 @@ next-line-spec =
     element-copy-out-byte
     end-line-requires
     returns-2
-    keep-requires
+    keep-next-requires
     loop-less
     loop-again
     end-line-requires-2
