@@ -1,21 +1,91 @@
 #!/usr/bin/env bash
-# Solves the cards that are named, or one of cards/, and shows their boards. It first proves and builds the program, which takes some
-# minutes once. Status: 0 done, 1 a card has no solution, 2 a file is no card (or the program could not be built).
+# Solves cards and shows their boards. The usage below is the one place that says what it takes and its status.
 set -uo pipefail
-root=$(cd "$(dirname "${BASH_SOURCE[0]}")" && pwd)
-[ $# -gt 0 ] || set -- "$root/cards/duck.non"
-if ! log=$(cd "$root" && rt check solve 2>&1); then
-    printf '%s\n' "$log" >&2
-    exit 2
-fi
-"$root/target/bin/solve" "$@" | {
-    status=0
-    while IFS= read -r line; do
-        printf '%s\n' "$line"
-        case $line in
-        'bad card,'*) status=2 ;;
-        'unsolvable '*) [ "$status" -eq 2 ] || status=1 ;;
-        esac
-    done
-    exit "$status"
+root=$(dirname "$(readlink -f "${BASH_SOURCE[0]}")")
+program=$root/target/bin/solve
+. "$root/scripts/proving.sh"
+
+usage() {
+  cat << 'USAGE'
+usage: solve.sh [CARD ...]
+       solve.sh --help
+
+Solves nonograms in the .non format (cards/README.md) and shows their boards. CARD is a file, or - for standard input. Without one it
+is standard input where a pipe or a file is there, and else cards/duck.non. -- ends options.
+
+The program is proved and built before the first card, which takes minutes once; how far it is stands on standard error. Boards
+go to standard output. What is no card is told on standard error.
+
+Status: 0 every cell of every card is known
+        1 a card has no solution
+        2 a file is no card, or cannot be read
+        3 a card is left with open cells
+        4 an option is not known, the program could not be built, or the output could not be written
+Of several cards the worst counts: 4 before 2, 2 before 1, 1 before 3.
+USAGE
 }
+
+end() { # STATUS MESSAGE
+  say "$2"
+  exit "$1"
+}
+
+# Writes lines to standard output, or ends.
+put() { printf '%s\n' "$@" 2> /dev/null || end 4 "the output could not be written"; }
+
+# The worse of two statuses: 2, then 1, then 3.
+worse() { # STATUS STATUS
+  case $1$2 in
+  *2*) echo 2 ;;
+  *1*) echo 1 ;;
+  *3*) echo 3 ;;
+  *) echo 0 ;;
+  esac
+}
+
+# Solves one card; `answered` is then its status.
+solve_card() { # CARD SEVERAL
+  local answer name=$1
+  if [ "$1" = - ]; then name='standard input'; fi
+  answer=$("$program" "$1") || end 4 "the program failed on $name"
+  case $answer in
+  'bad card, '*)
+    printf '%s\n' "$answer" >&2
+    answered=2
+    return
+    ;;
+  'unsolvable '*) answered=1 ;;
+  *' cells are open, '*) answered=3 ;;
+  *) answered=0 ;;
+  esac
+  if [ "$2" -gt 1 ]; then put "== $name =="; fi
+  put "$answer"
+}
+
+cards=()
+while [ $# -gt 0 ]; do
+  case $1 in
+  --help)
+    usage || exit 4
+    exit 0
+    ;;
+  --)
+    cards+=("${@:2}")
+    break
+    ;;
+  -?*) end 4 "$1 is no option; --help tells the usage" ;;
+  *) cards+=("$1") ;;
+  esac
+  shift
+done
+if [ ${#cards[@]} -eq 0 ]; then
+  # A terminal and /dev/null are devices.
+  if [ -e /dev/stdin ] && [ ! -c /dev/stdin ]; then cards=(-); else cards=("$root/cards/duck.non"); fi
+fi
+need rt && build_once solve "$program" run_rt solve check solve || exit 4
+status=0
+for card in "${cards[@]}"; do
+  solve_card "$card" ${#cards[@]}
+  status=$(worse "$status" "$answered")
+done
+exit "$status"
