@@ -1,5 +1,6 @@
 //! What the measurements share: the seed, the colours, binary cells as numbers, the rows of the table and its means.
 use nonogrid::block::binary::BinaryColor;
+use std::arch::asm;
 
 pub const SEED: u64 = 7303;
 pub const COLOURS: [u32; 4] = [2, 4, 8, 16];
@@ -30,7 +31,13 @@ pub fn codes(cells: &[BinaryColor]) -> Vec<u32> {
 
 /// The number of rounds, the program's one argument.
 pub fn rounds() -> usize {
-    std::env::args().nth(1).map_or(100, |w| w.parse().expect("a number of rounds"))
+    std::env::args().nth(1).map_or(150, |w| w.parse().expect("a number of rounds"))
+}
+
+/// A value that the compiler must make, whether it is used or not: `std::hint::black_box`, which older compilers lack.
+pub fn made<T>(value: T) -> T {
+    unsafe { asm!("/* {0} */", in(reg) &value, options(nostack, preserves_flags)) };
+    value
 }
 
 /// What a row measures: a line or a run, its cells, their kind, the blocks or the picture, and what is known at the start.
@@ -69,13 +76,13 @@ impl Table {
         print!("| {what} | {cells} | {kind} | {shape} | {known} ");
         println!("| {theirs:.3} | {cached} | {ours:.3} | {factor:.2} | {other} |");
     }
-    /// Tells the means beside the table, on standard error.
+    /// Tells the means, in the line after the rows.
     pub fn tell(&self, what: &str, how: &str) {
         let (rows, mean, low) = (self.plain.len(), geometric_mean(&self.plain), least(&self.plain));
-        eprint!("{what}: {rows} rows, crate / port {mean:.2} in the geometric mean, {low:.2} at least");
+        print!("{what}: {rows} rows, crate / port {mean:.2} in the geometric mean, {low:.2} at least");
         if !self.cached.is_empty() {
-            eprint!("; with its cache {:.2} and {:.2}", geometric_mean(&self.cached), least(&self.cached));
+            print!("; with its cache {:.2} and {:.2}", geometric_mean(&self.cached), least(&self.cached));
         }
-        eprintln!(". Seed {SEED}, {how}.");
+        println!(". Seed {SEED}, {how}.");
     }
 }

@@ -1,7 +1,7 @@
 //! One line solved by the crate and by the port, in one process and on the same inputs: rows of microseconds a line.
-//! Usage: lines [ROUNDS]. Each number is the least of that many rounds over the row's lines; both answers are compared first.
+//! Usage: lines [ROUNDS]. Each number is the least of ten times that many rounds over the row's lines; both answers are compared first.
 #![allow(warnings)]
-use std::{hint::black_box, time::Instant};
+use std::time::Instant;
 
 use nonogrid::{
     block::{
@@ -18,12 +18,14 @@ mod common;
 mod drawing;
 #[path = "../../examples/rust/scorepuddle.rs"]
 mod scorepuddle;
-use common::{codes, palette, rounds, Measured, Table, OPEN, SEED};
+use common::{codes, made, palette, rounds, Measured, Table, OPEN, SEED};
 use drawing::{place, space, Random};
 use scorepuddle::{sp_solve_binary_line, sp_solve_line, MEMO_BYTES};
 
 const LINES: usize = 24;
 const REPEATS: usize = 8;
+/// Rounds for each that is asked for: those of lines are short.
+const ROUNDS: usize = 10;
 
 /// A line as colour sets, with its blocks. A binary line has the colour 2 alone.
 struct Case {
@@ -121,76 +123,104 @@ impl Port {
     }
 }
 
-/// The least times of several rounds of the crate's work and the port's, in nanoseconds a line, the two by turns.
-fn least(rounds: usize, mut theirs: impl FnMut(), mut ours: impl FnMut()) -> (f64, f64) {
-    let mut best = (f64::MAX, f64::MAX);
-    for _ in 0..rounds {
-        best.0 = best.0.min(nanoseconds(&mut theirs));
-        best.1 = best.1.min(nanoseconds(&mut ours));
-    }
-    best
-}
-
-/// The time of one round, which does the work several times.
-fn nanoseconds(work: &mut impl FnMut()) -> f64 {
+/// The time of the work over a row's lines, which is done several times, in microseconds a line.
+fn microseconds(mut work: impl FnMut()) -> f64 {
     let start = Instant::now();
     for _ in 0..REPEATS {
         work();
     }
-    start.elapsed().as_nanos() as f64 / (REPEATS * LINES) as f64
+    start.elapsed().as_nanos() as f64 / (1000 * REPEATS * LINES) as f64
 }
 
-/// One row: the crate's time and the port's, on the same lines.
-fn row(rounds: usize, kind: &str, shape: &str, known: &str, length: usize) -> (f64, f64) {
-    let mut random = Random(SEED ^ ((length as u64) << 8));
-    let cases: Vec<Case> = (0..LINES).map(|_| case(&mut random, shape, known, length, kind)).collect();
-    let mut port = Port { memo: vec![0xa5; MEMO_BYTES], out: vec![0xdead_beef; length] };
-    if kind == "binary" {
-        let given: Vec<_> = cases.iter().map(binary).collect();
-        let cells: Vec<Vec<u32>> = given.iter().map(|g| codes(&g.1)).collect();
-        for i in 0..LINES {
-            let told = crate_solves(&given[i]);
-            let number = port.binary(&cells[i], &cases[i]);
-            assert_eq!(number == 0, told.is_some());
-            told.map(|t| assert_eq!(codes(&t), port.out));
+/// One round of a row: the crate's time and the port's, on the same lines.
+type Round = Box<dyn FnMut() -> [f64; 2]>;
+
+/// Compares the answers on binary lines, and makes their round.
+fn binary_round(cases: Vec<Case>, mut port: Port) -> Round {
+    let given: Vec<_> = cases.iter().map(binary).collect();
+    let cells: Vec<Vec<u32>> = given.iter().map(|g| codes(&g.1)).collect();
+    for i in 0..LINES {
+        let told = crate_solves(&given[i]);
+        let number = port.binary(&cells[i], &cases[i]);
+        assert_eq!(number == 0, told.is_some());
+        told.map(|t| assert_eq!(codes(&t), port.out));
+    }
+    Box::new(move || {
+        let theirs = microseconds(|| given.iter().for_each(|g| drop(made(crate_solves(g)))));
+        let ours = microseconds(|| (0..LINES).for_each(|i| drop(made(port.binary(&cells[i], &cases[i])))));
+        [theirs, ours]
+    })
+}
+
+/// Compares the answers on coloured lines, and makes their round.
+fn coloured_round(cases: Vec<Case>, mut port: Port) -> Round {
+    let given: Vec<_> = cases.iter().map(coloured).collect();
+    for i in 0..LINES {
+        let told = crate_solves(&given[i]);
+        let number = port.coloured(&cases[i]);
+        assert_eq!(number == 0, told.is_some());
+        told.map(|t| assert_eq!(t.iter().map(|c| c.0).collect::<Vec<u32>>(), port.out));
+    }
+    Box::new(move || {
+        let theirs = microseconds(|| given.iter().for_each(|g| drop(made(crate_solves(g)))));
+        let ours = microseconds(|| cases.iter().for_each(|c| drop(made(port.coloured(c)))));
+        [theirs, ours]
+    })
+}
+
+/// One row of the table, and the least times so far.
+struct Row {
+    measured: Measured<'static>,
+    round: Round,
+    least: [f64; 2],
+}
+
+impl Row {
+    fn new(length: usize, kind: &'static str, shape: &'static str, known: &'static str) -> Row {
+        let mut random = Random(SEED ^ ((length as u64) << 8));
+        let cases = (0..LINES).map(|_| case(&mut random, shape, known, length, kind)).collect();
+        let port = Port { memo: vec![0xa5; MEMO_BYTES], out: vec![0xdead_beef; length] };
+        Row {
+            measured: Measured { what: "line", cells: length.to_string(), kind, shape, known },
+            round: if kind == "binary" { binary_round(cases, port) } else { coloured_round(cases, port) },
+            least: [f64::MAX; 2],
         }
-        least(
-            rounds,
-            || given.iter().for_each(|g| drop(black_box(crate_solves(g)))),
-            || (0..LINES).for_each(|i| drop(black_box(port.binary(&cells[i], &cases[i])))),
-        )
-    } else {
-        let given: Vec<_> = cases.iter().map(coloured).collect();
-        for i in 0..LINES {
-            let told = crate_solves(&given[i]);
-            let number = port.coloured(&cases[i]);
-            assert_eq!(number == 0, told.is_some());
-            told.map(|t| assert_eq!(t.iter().map(|c| c.0).collect::<Vec<u32>>(), port.out));
-        }
-        least(
-            rounds,
-            || given.iter().for_each(|g| drop(black_box(crate_solves(g)))),
-            || cases.iter().for_each(|c| drop(black_box(port.coloured(c)))),
-        )
+    }
+    fn measure(&mut self) {
+        let times = (self.round)();
+        self.least = [0, 1].map(|which| self.least[which].min(times[which]));
     }
 }
 
-fn main() {
-    let rounds = rounds();
-    let mut table = Table::default();
+fn rows() -> Vec<Row> {
+    let mut rows = vec![];
     for length in [8, 16, 32, 64] {
         for kind in ["binary", "4 colours"] {
             for shape in ["sparse", "dense", "long", "ones"] {
                 for known in ["half-known", "open"] {
-                    if shape == "ones" && known == "half-known" {
-                        continue;
+                    if shape != "ones" || known == "open" {
+                        rows.push(Row::new(length, kind, shape, known));
                     }
-                    let (theirs, ours) = row(rounds, kind, shape, known, length);
-                    let measured = Measured { what: "line", cells: length.to_string(), kind, shape, known };
-                    table.row(&measured, theirs / 1000.0, None, ours / 1000.0);
                 }
             }
         }
+    }
+    rows
+}
+
+/// A round goes through the whole table, so that a busy time of the machine does not fall on one row.
+fn main() {
+    let rounds = ROUNDS * rounds();
+    let mut rows = rows();
+    for round in 0..rounds {
+        if round % 250 == 0 {
+            eprintln!("measuring lines: round {} of {rounds}", round + 1);
+        }
+        rows.iter_mut().for_each(Row::measure);
+    }
+    let mut table = Table::default();
+    for Row { measured, least: [theirs, ours], .. } in &rows {
+        table.row(measured, *theirs, None, *ours);
     }
     table.tell("Lines", &format!("{LINES} lines a row, the least of {rounds} rounds"));
 }

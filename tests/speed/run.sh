@@ -1,6 +1,6 @@
 #!/bin/bash
 # Measures the port beside the crate, in one process and on the same inputs, and prints the table of docs/SPEED.md with its means.
-# CRATE_DIR holds the crate's src/; the packages are those of tests/oracle. The device library is proved and built first.
+# CRATE_DIR holds the crate's src/; the packages are those of tests/oracle. The device library is proved and built first, unless it is as it was.
 # Usage: run.sh CRATE_DIR OUT [ROUNDS]
 set -eu
 if [ $# -lt 2 ]; then
@@ -8,19 +8,23 @@ if [ $# -lt 2 ]; then
   exit 2
 fi
 here=$(cd "$(dirname "$0")" && pwd)
+root=$(cd "$here/../.." && pwd)
 crate=$(cd "$1" && pwd)/src
 mkdir -p "$2"
 out=$(cd "$2" && pwd)
 rounds=${3:-150}
 . "$here/../oracle/lay_out.sh"
+. "$root/scripts/proving.sh"
 
-(cd "$here/../.." && rt staticlib device) >&2
+need rt cargo rustc
+build_device
 for name in lines runs; do
   lay_out "$crate" "$out/$name" "$here/$name.rs"
   build_over_library "$out/$name" nonogrid
 done
 echo "| what | cells | kind | blocks, or picture | start | crate, µs | with its cache, µs | port, µs | crate / port | with its cache / port |"
 echo "|---|---|---|---|---|---|---|---|---|---|"
-for name in lines runs; do "$out/$name/target/release/$name" "$rounds"; done 2> "$out/means"
+for name in lines runs; do "$out/$name/target/release/$name" "$rounds"; done > "$out/told"
+grep '^|' "$out/told"
 echo
-cat "$out/means"
+grep -v '^|' "$out/told"

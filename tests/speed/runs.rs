@@ -1,7 +1,7 @@
 //! Full runs by the crate, without and with its cache, and by the port, in one process and on the same inputs: rows of microseconds a run.
 //! Usage: runs [ROUNDS]. Each number is the mean over the row's puzzles of the least of that many runs; the answers are compared first.
 #![allow(warnings)]
-use std::{hint::black_box, time::Instant};
+use std::time::Instant;
 
 use nonogrid::{
     block::{
@@ -22,7 +22,7 @@ mod common;
 mod drawing;
 #[path = "../../examples/rust/scorepuddle.rs"]
 mod scorepuddle;
-use common::{codes, palette, rounds, Measured, Table, COLOURS, OPEN, SEED};
+use common::{codes, made, palette, rounds, Measured, Table, COLOURS, OPEN, SEED};
 use drawing::{clues, paint_blobs, paint_noise, Clues, Random};
 use scorepuddle::{sp_run, sp_run_binary, RunAnswer, MEMO_BYTES, STACK_ENTRIES};
 
@@ -146,7 +146,7 @@ where
     let board = board::<B>(puzzle);
     let mut solver = if cache { Solver::with_cache(board.clone()) } else { Solver::new(board.clone()) };
     let start = Instant::now();
-    let told = black_box(solver.run::<DynamicSolver<B>>(None));
+    let told = made(solver.run::<DynamicSolver<B>>(None));
     (microseconds(start), told, board)
 }
 
@@ -154,7 +154,7 @@ where
 fn port_runs<B: Kind>(puzzle: &Puzzle, port: &mut Port) -> (f64, RunAnswer) {
     port.grid.fill(B::OPEN);
     let start = Instant::now();
-    let told = black_box(B::port_runs(port, puzzle));
+    let told = made(B::port_runs(port, puzzle));
     (microseconds(start), told)
 }
 
@@ -239,7 +239,10 @@ fn measure_rows(rounds: usize) -> Vec<Row> {
             row.compare::<ColoredBlock>();
         }
     }
-    for _ in 0..rounds {
+    for round in 0..rounds {
+        if round % 10 == 0 {
+            eprintln!("measuring runs: round {} of {rounds}", round + 1);
+        }
         for row in &mut rows {
             if row.kind == "binary" {
                 row.measure::<BinaryBlock>();
