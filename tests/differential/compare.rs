@@ -1,7 +1,7 @@
 //! The port held against the crate, request by request; what differs is shrunk and shown.
 use std::{
     collections::{BTreeMap, HashSet},
-    time::Instant,
+    time::{Duration, Instant},
 };
 
 use crate::{
@@ -15,6 +15,9 @@ use crate::{
 
 /// So many differences of a group are shown.
 const SHOWN: usize = 3;
+/// How far it is, is told on standard error after this time; it is looked at after so many comparisons.
+const PATIENCE: Duration = Duration::from_secs(15);
+const LOOKED: u64 = 1024;
 
 #[derive(Default)]
 struct Counts {
@@ -33,6 +36,7 @@ pub struct Comparison {
     group: Counts,
     all: Counts,
     started: Instant,
+    told: Instant,
 }
 
 /// What the port has to answer: what the crate does or, at a refusal by checking, what document 01 says. A run is held to both copies of the
@@ -97,6 +101,7 @@ impl Comparison {
             group: Counts::default(),
             all: Counts::default(),
             started: Instant::now(),
+            told: Instant::now(),
         }
     }
 
@@ -134,6 +139,11 @@ impl Comparison {
 
     fn count(&mut self, request: &Request, expected: &Expected) {
         self.group.comparisons += 1;
+        let compared = self.all.comparisons + self.group.comparisons;
+        if compared % LOOKED == 0 && self.told.elapsed() > PATIENCE {
+            eprintln!("{compared} comparisons so far");
+            self.told = Instant::now();
+        }
         match number(&expected.whole).parse() {
             Ok(0) => self.group.done += 1,
             Ok(8) => self.group.unsolvable += 1,

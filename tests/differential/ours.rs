@@ -155,13 +155,15 @@ impl Port {
     }
 
     fn call(&mut self, request: &Request) -> Told {
-        let [cells, counts, sizes, colours, rest @ ..] = self.read.each_ref().map(|lent| lent.list());
+        let [cells, row_counts, row_sizes, row_colours, counts, sizes, colours] = &self.read;
+        let [a, b, c, d, e, f] = &mut self.words;
+        let [from, to] = &mut self.wides;
         let lists = Lists {
-            cells,
-            rows: Clues { counts, sizes, colours },
-            columns: Clues { counts: rest[0], sizes: rest[1], colours: rest[2] },
-            words: self.words.each_mut().map(|lent| lent.list_mut()),
-            wides: self.wides.each_mut().map(|lent| lent.list_mut()),
+            cells: cells.list(),
+            rows: Clues { counts: row_counts.list(), sizes: row_sizes.list(), colours: row_colours.list() },
+            columns: Clues { counts: counts.list(), sizes: sizes.list(), colours: colours.list() },
+            words: [a, b, c, d, e, f].map(|lent| lent.list_mut()),
+            wides: [from, to].map(|lent| lent.list_mut()),
             memo: self.memo.list_mut(),
         };
         match request.call {

@@ -26,7 +26,7 @@ fn read_card(id: &str) -> Option<Card> {
     let (width, height) = sides.split_once('x')?;
     let (width, height) = (width.parse().ok()?, height.parse().ok()?);
     let clues: Vec<&str> = clues.split('/').collect();
-    let (columns, rows) = clues.split_at_checked(width)?;
+    let (columns, rows) = (clues.get(..width)?, clues.get(width..)?);
     (rows.len() == height).then_some(Card { width, height, rows: read_clues(rows)?, columns: read_clues(columns)? })
 }
 

@@ -49,12 +49,20 @@ fn steps(candidate: &Candidate) -> Vec<Step> {
     steps
 }
 
-/// Drops a half, a quarter or one of the rows or columns. A call on blocks has a length alone, and a line has one row.
+/// How many sides a call is given: those of a grid, the length of a line, or none, and then the request's width may be any number.
+fn sides_of(call: Call) -> usize {
+    match call {
+        Call::GridClues | Call::FullRun | Call::PointRun => 2,
+        Call::Positions | Call::Ranges | Call::LineClue | Call::Line => 1,
+        Call::Sums | Call::Starts | Call::Description => 0,
+    }
+}
+
+/// Drops a half, a quarter or one of the rows or columns.
 fn line_steps(request: &Request) -> Vec<Step> {
     let mut steps: Vec<Step> = vec![];
-    let has_rows = request.is_run() || request.call == Call::GridClues;
     let sides = [(request.width, drop_column as fn(&mut Candidate, usize)), (request.height, drop_row)];
-    for (side, drop) in sides.into_iter().take(if has_rows { 2 } else { 1 }) {
+    for (side, drop) in sides.into_iter().take(sides_of(request.call)) {
         for part in [side / 2, side / 4, 1].into_iter().filter(|&part| part > 0 && part < side) {
             for at in 0..=side - part {
                 steps.push(Box::new(move |c| (0..part).for_each(|_| drop(c, at))));

@@ -216,6 +216,7 @@ int main(int argc, char **argv) {
   if (arena == NULL || before == NULL) return 1;
   for (size_t call = 0; call < CALLS; call++) {
     if (argc == 3) {
+      fprintf(stderr, "  %s\n", calls[call].name);
       tell_call(call, seed, count);
     } else if (strcmp(calls[call].name, argv[3]) == 0) {
       if (argc == 4) tell_cases(call, seed, count);

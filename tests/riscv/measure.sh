@@ -9,6 +9,8 @@ if [ $# -ne 1 ]; then
 fi
 here=$(cd "$(dirname "$0")" && pwd)
 root=$(cd "$here/../.." && pwd)
+. "$root/scripts/proving.sh"
+need rt gcc riscv64-linux-gnu-gcc qemu-riscv64
 mkdir -p "$1"
 out=$(cd "$1" && pwd)
 
@@ -20,10 +22,7 @@ tell_sections() { # MACHINE FILE
     END { printf "%s: code %d bytes, read-only data %d, writable data %d\n", machine, code, fixed, writable }'
 }
 
-if ! "$here/build.sh" "$out" > "$out/build.log" 2>&1; then
-  tail -n 20 "$out/build.log"
-  exit 1
-fi
+"$here/build.sh" "$out"
 flags=(-std=c11 -Wall -Wextra -Werror -O2 -I "$root/include" -pthread)
 gcc "${flags[@]}" "$here/stack.c" "$root/target/staticlib/libdevice.a" -o "$out/stack-x86_64"
 riscv64-linux-gnu-gcc "${flags[@]}" -static "$here/stack.c" "$out/libdevice.a" -o "$out/stack-riscv64"

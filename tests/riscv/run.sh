@@ -10,6 +10,8 @@ if [ $# -lt 1 ] || [ $# -gt 3 ]; then
 fi
 here=$(cd "$(dirname "$0")" && pwd)
 root=$(cd "$here/../.." && pwd)
+. "$root/scripts/proving.sh"
+need rt gcc riscv64-linux-gnu-gcc qemu-riscv64
 mkdir -p "$1"
 out=$(cd "$1" && pwd)
 seed=${2:-7303}
@@ -32,6 +34,7 @@ run_program() { # NAME
 # Keeps what compare.c tells on a machine; what it finds wrong there is its last line.
 told() { # MACHINE COMMAND
   local file=$out/$1.told
+  say "$count calls of each on $1"
   shift
   if ! "$@" "$seed" "$count" > "$file"; then
     tail -n 1 "$file"
@@ -60,10 +63,7 @@ compare_calls() {
   cat "$out/riscv64.told"
 }
 
-if ! "$here/build.sh" "$out" replay examples > "$out/build.log" 2>&1; then
-  tail -n 20 "$out/build.log"
-  exit 1
-fi
+"$here/build.sh" "$out" replay examples
 run_program replay
 run_program examples
 compare_calls
