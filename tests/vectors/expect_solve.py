@@ -1,10 +1,10 @@
-"""Writes what the program solve must print for cards: an independent reading of their format and of document 01's runs.
+"""Writes what the program solve must print for cards: another reading of their format, and the independent one of document 01's runs.
 
 Usage: expect_solve.py FOLDER < args > stdout. The names of the cards, which are files of the folder, stand one a line on standard input, as
 the program's arguments. `-` is the program's standard input: the file `stdin` beside the folder, and empty where there is none.
 With one name alone, it does not stand above its answer.
 
-A card is read as cards/README.md says, byte by byte; nothing was taken from the program's own reader.
+A card is read as cards/README.md says, byte by byte. README.md says how far this is independent of the program's own reader.
 """
 
 import os
