@@ -2,7 +2,6 @@
 # Solves cards and shows their boards. The usage below is the one place that says what it takes and its status.
 set -uo pipefail
 root=$(dirname "$(readlink -f "${BASH_SOURCE[0]}")")
-program=$root/target/bin/solve
 . "$root/scripts/proving.sh"
 
 usage() {
@@ -24,14 +23,6 @@ Status: 0 every cell of every card is known
 Of several cards the worst counts: 4 before 2, 2 before 1, 1 before 3.
 USAGE
 }
-
-end() { # STATUS MESSAGE
-  say "$2"
-  exit "$1"
-}
-
-# Writes lines to standard output, or ends.
-put() { printf '%s\n' "$@" 2> /dev/null || end 4 "the output could not be written"; }
 
 # The worse of two statuses: 2, then 1, then 3.
 worse() { # STATUS STATUS
@@ -62,30 +53,11 @@ solve_card() { # CARD SEVERAL
   put "$answer"
 }
 
-cards=()
-while [ $# -gt 0 ]; do
-  case $1 in
-  --help)
-    usage || exit 4
-    exit 0
-    ;;
-  --)
-    cards+=("${@:2}")
-    break
-    ;;
-  -?*) end 4 "$1 is no option; --help tells the usage" ;;
-  *) cards+=("$1") ;;
-  esac
-  shift
-done
-if [ ${#cards[@]} -eq 0 ]; then
-  # A terminal and /dev/null are devices.
-  if [ -e /dev/stdin ] && [ ! -c /dev/stdin ]; then cards=(-); else cards=("$root/cards/duck.non"); fi
-fi
-need rt && build_once solve "$program" run_rt solve check solve || exit 4
+take_files "$root/cards/duck.non" "$@"
+take_program solve
 status=0
-for card in "${cards[@]}"; do
-  solve_card "$card" ${#cards[@]}
+for card in "${files[@]}"; do
+  solve_card "$card" ${#files[@]}
   status=$(worse "$status" "$answered")
 done
 exit "$status"

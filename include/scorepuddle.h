@@ -20,9 +20,10 @@
  *    8  a line has no agreeing placement
  *    9  a picture code is not allowed
  *   10  the blocks need more than the length
+ *   11  a text is not a picture in plain PBM
  *
- * If several apply, the lowest is given, but 8 after all others. A refusal other than 8 changes no lent memory, and the other fields of
- * the answer are 0 (line_kind 2). Every call takes any input and ends.
+ * If several apply, the lowest is given, but 8 after all others; sp_read_pbm judges in an order of its own. A refusal other than 8 changes
+ * no lent memory, and the other fields of the answer are 0 (line_kind 2). Every call takes any input and ends.
  *
  * CELLS. A binary cell is 0 undefined, 1 white, 2 black. A coloured cell is a set of colours, one bit each; bit 0 (the number 1) is blank.
  * A block has a size of at least 1 and, if coloured, a colour with one bit, not 1. A grid is row after row: cell (x, y) is y * width + x.
@@ -50,7 +51,8 @@ enum {
     SP_SHORT_REPORT = 7,
     SP_UNSOLVABLE = 8,
     SP_BAD_CODE = 9,
-    SP_NO_SPACE = 10
+    SP_NO_SPACE = 10,
+    SP_BAD_TEXT = 11
 };
 
 /* Sides and lengths, and blocks of a line, are at most this. */
@@ -192,6 +194,41 @@ sp_clues_answer sp_binary_clues(size_t width, size_t height,
                                 uint32_t *row_sizes, size_t row_sizes_count,
                                 uint32_t *column_counts, size_t column_counts_count,
                                 uint32_t *column_sizes, size_t column_sizes_count);
+
+/* ---- Pictures as text --------------------------------------------------------------------------------------------------------------
+ *
+ * The text of a plain PBM file, and the codes of its picture, row after row: 1 for white, 2 for black. Its clues are those with blank 1. */
+
+typedef struct sp_pbm_answer {
+    uint32_t number;
+    size_t width;  /* with 0: the picture's sides */
+    size_t height;
+} sp_pbm_answer;
+
+/* Reads a picture. text: the whole file. codes: room for at least width * height; 4,096 is always enough.
+ *
+ * The text is `P1`, the width, the height, and a digit for each cell, 0 for white and 1 for black. Whitespace (space, TAB, LF, VT, FF, CR)
+ * stands after `P1` and after each size, and may stand between the digits and after them. A comment, from `#` to the next LF or CR, may
+ * stand after whitespace and before a size. Nothing else may stand anywhere. A size is a longest run of decimal digits, leading zeros allowed.
+ *
+ * Judged in this order: 11 for a break before both sizes are read, 1 for the sizes, 2 for the room, 11 for any other break.
+ * Numbers: 0 1 2 11. */
+
+sp_pbm_answer sp_read_pbm(const uint8_t *text, size_t text_count,
+                          uint32_t *codes, size_t codes_count);
+
+/* The most bytes that sp_write_pbm writes, those of a picture of 64 by 64. */
+enum { SP_PBM_BYTES = 4169 };
+
+/* Writes a picture. codes: exactly width * height, each 1 or 2 (else 9). text: room for at least
+ * 5 + (digits of the width) + (digits of the height) + height * (width + 1) bytes, which is how many are written.
+ *
+ * There is one form: `P1`; the width, one space, the height; then each row without spaces; each of these lines ended by one LF. No 0 byte
+ * is put after it. Numbers: 0 1 2 9. */
+
+sp_count sp_write_pbm(size_t width, size_t height,
+                      const uint32_t *codes, size_t codes_count,
+                      uint8_t *text, size_t text_count);
 
 /* ---- A line's blocks ---------------------------------------------------------------------------------------------------------------
  *

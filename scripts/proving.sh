@@ -1,5 +1,5 @@
-# Proves and builds crates with rt, tells on standard error how far it is, and does nothing where nothing has changed. To be sourced, with
-# `root` set to the repository.
+# Proves and builds crates with rt, tells on standard error how far it is, and does nothing where nothing has changed; and has what the
+# commands for a person share. To be sourced, with `root` set to the repository.
 
 say() { printf '%s: %s\n' "$(basename "$0")" "$*" >&2; }
 
@@ -63,17 +63,64 @@ run_rt() { # CRATE WORDS ...
   fi
 }
 
-# Makes FILE of CRATE by a command, unless it is there and all that it was made of is as it was.
+# Makes FILE of CRATE by a command, unless it is there and all that it was made of is as it was. Two that do so at once, as the commands of a
+# pipe, go one after the other.
 build_once() { # CRATE FILE COMMAND ...
   local crate=$1 file=$2
   shift 2
   if is_built "$crate" "$file"; then return; fi
+  need flock || return
   say "$crate is proved and built first, once; this can take minutes ($(parts_of "$crate" | wc -l) crates)"
-  rm -f "$file.sum"
-  "$@" && note_built "$crate" "$file"
+  mkdir -p "$root/target"
+  {
+    flock 9
+    rm -f "$file.sum"
+    "$@" && note_built "$crate" "$file"
+  } 9> "$root/target/proving.lock"
 }
 
 # The device library for this machine.
 build_device() {
   build_once device "$root/target/staticlib/libdevice.a" run_rt device staticlib device
+}
+
+# ---- what the commands for a person share; each has a function `usage`, and status 4 where it cannot do its work
+
+end() { # STATUS MESSAGE
+  say "$2"
+  exit "$1"
+}
+
+# Writes lines to standard output, or ends.
+put() { printf '%s\n' "$@" 2> /dev/null || end 4 "the output could not be written"; }
+
+# The files that a command is given, as `files`. Without one it is standard input where a pipe or a file is there, and else a file of ours.
+take_files() { # OURS WORD ...
+  local ours=$1
+  shift
+  files=()
+  while [ $# -gt 0 ]; do
+    case $1 in
+    --help)
+      usage || exit 4
+      exit 0
+      ;;
+    --)
+      files+=("${@:2}")
+      break
+      ;;
+    -?*) end 4 "$1 is no option; --help tells the usage" ;;
+    *) files+=("$1") ;;
+    esac
+    shift
+  done
+  if [ ${#files[@]} -gt 0 ]; then return; fi
+  # A terminal and /dev/null are devices.
+  if [ -e /dev/stdin ] && [ ! -c /dev/stdin ]; then files=(-); else files=("$ours"); fi
+}
+
+# A command's program, proved and built, as `program`.
+take_program() { # CRATE
+  program=$root/target/bin/$1
+  need rt && build_once "$1" "$program" run_rt "$1" check "$1" || exit 4
 }

@@ -1,4 +1,5 @@
-/* A black card, as a device would play it: the clues of a picture, a full run, a right mark, a wrong mark, and a refusal.
+/* A black card, as a device would play it: a picture read from a text, its clues, a full run, a right mark, a wrong mark, a refusal, and
+ * the solved board written as a text.
  *
  * Build: rt staticlib device, then cc -I include examples/c/solve_card.c target/staticlib/libdevice.a */
 #include <stdio.h>
@@ -22,14 +23,19 @@ static size_t row_blocks, column_blocks;
 /* The cells that a run changed. A black card never has more entries than cells. */
 static uint32_t report[CELLS];
 
-/* The code 2 stands for black, 1 for blank. */
-static const uint32_t picture[CELLS] = {
-    2, 1, 2, 2, 1,
-    2, 2, 2, 2, 2,
-    2, 1, 2, 1, 1,
-    1, 1, 1, 2, 1,
-    2, 1, 1, 1, 2,
-};
+/* The picture as a scanner writes it, in plain PBM: 1 is black. */
+static const char scan[] =
+    "P1\n"
+    "# width and height\n"
+    "5 5\n"
+    "1 0 1 1 0\n"
+    "1 1 1 1 1\n"
+    "1 0 1 0 0\n"
+    "0 0 0 1 0\n"
+    "1 0 0 0 1\n";
+
+/* Its codes: 2 stands for black, 1 for blank. */
+static uint32_t picture[CELLS];
 
 static void print_clues(const char *name, const uint32_t *counts, size_t lines, const uint32_t *sizes) {
     printf("%s:", name);
@@ -53,6 +59,20 @@ static void print_answer(const char *name, sp_run_answer answer) {
     printf(", %zu lines solved, %zu cells changed:", answer.lines, answer.entries);
     for (size_t entry = 0; entry < answer.entries; entry++) printf(" %u", (unsigned)report[entry]);
     printf("\n");
+}
+
+/* A board without open cells is a picture: white and black are its codes. The text has no 0 byte at its end. */
+static void print_picture(const char *name, const uint32_t *grid) {
+    uint8_t text[SP_PBM_BYTES];
+    sp_count answer = sp_write_pbm(WIDTH, HEIGHT, grid, CELLS, text, sizeof text);
+    printf("%s: number %u, %zu bytes\n%.*s", name, (unsigned)answer.number, answer.count, (int)answer.count, (const char *)text);
+}
+
+/* Reads the scan. The lists above are for one size of card, so a picture of another size is turned down. */
+static int read_scan(void) {
+    sp_pbm_answer answer = sp_read_pbm((const uint8_t *)scan, strlen(scan), picture, CELLS);
+    printf("scan: number %u, %zu by %zu\n", (unsigned)answer.number, answer.width, answer.height);
+    return answer.number == SP_DONE && answer.width == WIDTH && answer.height == HEIGHT;
 }
 
 /* Solves lines of the whole card until none can say more. */
@@ -80,6 +100,7 @@ static void mark(const char *name, uint32_t *grid, size_t x, size_t y, uint32_t 
 }
 
 int main(void) {
+    if (!read_scan()) return 1;
     sp_clues_answer clues = sp_binary_clues(WIDTH, HEIGHT, picture, CELLS, 1, row_counts, HEIGHT, row_sizes, CELLS, column_counts, WIDTH,
                                             column_sizes, CELLS);
     if (clues.number != SP_DONE) return 1;
@@ -95,6 +116,7 @@ int main(void) {
     /* The whole card. The run leaves open what no line can decide: the ends of the last two rows could also be the other way round. */
     print_answer("full run", run(grid));
     print_board(grid);
+    print_picture("with open cells it is no picture", grid);
 
     /* One mark decides them. */
     mark("black at (3, 3)", grid, 3, 3, BLACK);
@@ -106,5 +128,6 @@ int main(void) {
 
     /* A settled board stays as it is. */
     print_answer("full run again", run(grid));
+    print_picture("the board as a picture", grid);
     return 0;
 }

@@ -17,10 +17,14 @@ pub const SHORT_REPORT: u32 = 7;
 pub const UNSOLVABLE: u32 = 8;
 pub const BAD_CODE: u32 = 9;
 pub const NO_SPACE: u32 = 10;
+pub const BAD_TEXT: u32 = 11;
 
 /// What the working memory of a call needs.
 pub const MEMO_BYTES: usize = 4160;
 pub const STACK_ENTRIES: usize = 128;
+
+/// The most bytes that `sp_write_pbm` writes.
+pub const PBM_BYTES: usize = 4169;
 
 /// `line_kind` of a run's answer.
 pub const ROW: u32 = 0;
@@ -53,6 +57,15 @@ pub struct CluesAnswer {
     pub number: u32,
     pub rows: usize,
     pub columns: usize,
+}
+
+/// With 0, the sides of the picture that was read.
+#[repr(C)]
+#[derive(Clone, Copy, Debug, PartialEq)]
+pub struct PbmAnswer {
+    pub number: u32,
+    pub width: usize,
+    pub height: usize,
 }
 
 /// With 0, in how many places the blocks lie.
@@ -153,6 +166,12 @@ calls! {
         width: usize, height: usize, codes: &[u32], blank: u32,
         row_counts: &mut [u32], row_sizes: &mut [u32], column_counts: &mut [u32], column_sizes: &mut [u32]
     ) -> CluesAnswer;
+}
+
+// Pictures as text.
+calls! {
+    fn sp_read_pbm(text: &[u8], codes: &mut [u32]) -> PbmAnswer;
+    fn sp_write_pbm(width: usize, height: usize, codes: &[u32], text: &mut [u8]) -> Count;
 }
 
 // A line's blocks.

@@ -1,4 +1,5 @@
-//! A coloured card, as a device would play it: the clues of a picture, what one line tells, a full run, a mark, and two refusals.
+//! A coloured card, as a device would play it: the clues of a picture, what one line tells, a full run, a mark, and two refusals; and a
+//! scanned picture, its clues, and its text again.
 //!
 //! Build: rt staticlib device, then rustc --edition 2021 -L native=target/staticlib examples/rust/solve_card.rs
 mod scorepuddle;
@@ -44,6 +45,35 @@ fn show_line(name: &str, sizes: &[u32], colours: &[u32], memo: &mut [u8]) {
     let mut line = [0; SIDE];
     let number = sp_solve_line(&[OPEN; SIDE], sizes, colours, memo, &mut line);
     println!("{name}, sizes {sizes:?}, colours {colours:?}: number {number},{}", show(&line));
+}
+
+/// A picture as a scanner writes it, in plain PBM: read, its clues made, and written in the library's one form.
+fn show_scan(scan: &[u8]) {
+    let (mut codes, mut text) = ([0; CELLS], [0; PBM_BYTES]);
+    let read = sp_read_pbm(scan, &mut codes);
+    println!("scan: {read:?}");
+    if read.number != DONE {
+        return;
+    }
+    let codes = &codes[..read.width * read.height];
+    let (mut row_counts, mut row_sizes) = ([0; SIDE], [0; CELLS]);
+    let (mut column_counts, mut column_sizes) = ([0; SIDE], [0; CELLS]);
+    let clues = sp_binary_clues(
+        read.width,
+        read.height,
+        codes,
+        BLANK,
+        &mut row_counts,
+        &mut row_sizes,
+        &mut column_counts,
+        &mut column_sizes,
+    );
+    assert_eq!(clues.number, DONE);
+    println!("rows {:?} {:?}", &row_counts[..read.height], &row_sizes[..clues.rows]);
+    println!("columns {:?} {:?}", &column_counts[..read.width], &column_sizes[..clues.columns]);
+    let written = sp_write_pbm(read.width, read.height, codes, &mut text);
+    println!("text: {written:?}");
+    print!("{}", String::from_utf8_lossy(&text[..written.count]));
 }
 
 fn main() {
@@ -94,4 +124,8 @@ fn main() {
     let answer = sp_run_point(SIDE, SIDE, 5, 0, &mut open, rows, columns, &mut report, &mut memo, &mut stack);
     println!("the point (5, 0): {answer:?}");
     assert_eq!(open, [OPEN; CELLS]);
+
+    // A picture from outside, and the same cut short.
+    show_scan(b"P1 # width\n4 # height\n3\n0110 1111 0100\n");
+    show_scan(b"P1 4 3 0110 1111 010");
 }

@@ -50,6 +50,24 @@ static size_t draw_side(void) {
   return one_in(2) ? SIDE : 1 + below(SIDE);
 }
 
+// A number in the place of another, mostly one that is not allowed.
+static size_t odd_number(size_t value) {
+  switch (below(6)) {
+    case 0:
+      return 0;
+    case 1:
+      return value + 1;
+    case 2:
+      return SIDE + 1;
+    case 3:
+      return (size_t)1 << 32;
+    case 4:
+      return SIZE_MAX;
+    default:
+      return draw();
+  }
+}
+
 // ---- Lists
 
 // A list of so many entries of so many bytes, at any place that its type allows, its content dirty.
@@ -307,24 +325,71 @@ static void make_description(bool black) {
   if (!black) lend_room("out_colours", WRITTEN, 4, blocks);
 }
 
-// ---- Illegal cases
+// ---- Pictures as text
 
-static size_t odd_number(size_t value) {
-  switch (below(6)) {
-    case 0:
-      return 0;
-    case 1:
-      return value + 1;
-    case 2:
-      return SIDE + 1;
-    case 3:
-      return (size_t)1 << 32;
-    case 4:
-      return SIZE_MAX;
-    default:
-      return draw();
+static char text[4 * CELLS];
+static size_t text_count;
+
+static void add_text(const char *more) {
+  size_t count = strlen(more);
+  memcpy(text + text_count, more, count);
+  text_count += count;
+}
+
+// Mostly a space or a line feed.
+static void add_space(void) {
+  static const char *const spaces[] = {" ", "\n", "\t", "\v", "\f", "\r"};
+  add_text(spaces[one_in(3) ? below(6) : below(2)]);
+}
+
+// What stands before a size: whitespace, often with comments.
+static void add_gap(void) {
+  static const char *const comments[] = {"#\n", "# 1 #\r", "#a\r\n#b\n"};
+  add_space();
+  for (size_t more = below(4); more > 1; more--) {
+    if (one_in(2)) add_text(comments[below(3)]);
+    add_space();
   }
 }
+
+// A size, at times with leading zeros, now and then another.
+static void add_size(size_t size) {
+  char digits[40];
+  int least = one_in(4) ? 1 + (int)below(25) : 1;
+  snprintf(digits, sizeof digits, "%0*zu", least, one_in(16) ? odd_number(size) : size);
+  add_gap();
+  add_text(digits);
+}
+
+// The digits of the picture, with whitespace between all of them, between some or between few.
+static void add_digits(size_t count) {
+  size_t often = 1 + below(8);
+  for (size_t i = 0; i < count; i++) {
+    add_text(picture[i] == 1 ? "0" : "1");
+    if (one_in(often)) add_space();
+  }
+}
+
+static void make_text(bool black) {
+  size_t cells = paint_board(black);
+  text_count = number_count = 0;
+  add_text("P1");
+  add_size(numbers[0]);
+  add_size(numbers[1]);
+  add_space();
+  add_digits(cells);
+  memcpy(lend("text", READ, 1, text_count), text, text_count);
+  lend_room("codes", WRITTEN, 4, cells);
+}
+
+static void make_drawing(bool black) {
+  size_t cells = paint_board(black);
+  size_t heading = (size_t)snprintf(NULL, 0, "P1\n%zu %zu\n", numbers[0], numbers[1]);
+  lend_copy("codes", picture, cells);
+  lend_room("text", WRITTEN, 1, heading + cells + numbers[1]);
+}
+
+// ---- Illegal cases
 
 // A list that is too short, or too long.
 static void spoil_count(list *l) {
@@ -343,8 +408,16 @@ static void spoil_count(list *l) {
   }
 }
 
+static void spoil_byte(const list *l) {
+  static const char odd[] = " \n\r\v#P01257x/:";
+  uint8_t byte = (uint8_t)draw();
+  if (!one_in(4)) byte = (uint8_t)odd[below(sizeof odd)];
+  l->at[below(l->count)] = byte;
+}
+
 static void spoil_entry(const list *l) {
   static const uint32_t odd[] = {0, 1, 2, 3, 4, 6, SIDE + 1, 0x7fffffff, 0x80000000, 0xffffffff};
+  if (l->width == 1 && l->use == READ && l->count > 0) spoil_byte(l);
   if (l->width != 4 || l->count == 0) return;
   uint32_t value = odd[below(sizeof odd / sizeof *odd)];
   ((uint32_t *)l->at)[below(l->count)] = value;

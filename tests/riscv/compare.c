@@ -16,6 +16,7 @@ static answer of_number(uint32_t number) { return (answer){number, 0, {0, 0, 0}}
 static answer of_count(sp_count c) { return (answer){c.number, 0, {c.count, 0, 0}}; }
 static answer of_positions(sp_positions p) { return (answer){p.number, 0, {p.positions, 0, 0}}; }
 static answer of_clues(sp_clues_answer c) { return (answer){c.number, 0, {c.rows, c.columns, 0}}; }
+static answer of_pbm(sp_pbm_answer p) { return (answer){p.number, 0, {p.width, p.height, 0}}; }
 static answer of_run(sp_run_answer r) { return (answer){r.number, r.line_kind, {r.line_index, r.entries, r.lines}}; }
 
 // ---- The calls, with the case's lists (W of 32-bit numbers, D of 64-bit numbers, B of bytes) and numbers (N)
@@ -37,6 +38,8 @@ CALL(of_count, sp_clue, W(0), blank, W(1), W(2))
 CALL(of_count, sp_binary_clue, W(0), blank, W(1))
 CALL(of_clues, sp_clues, N(0), N(1), W(0), blank, W(1), W(2), W(3), W(4), W(5), W(6))
 CALL(of_clues, sp_binary_clues, N(0), N(1), W(0), blank, W(1), W(2), W(3), W(4))
+CALL(of_pbm, sp_read_pbm, B(0), W(1))
+CALL(of_count, sp_write_pbm, N(0), N(1), W(0), B(1))
 CALL(of_count, sp_partial_sums, W(0), W(1), D(2))
 CALL(of_count, sp_binary_partial_sums, W(0), D(1))
 CALL(of_count, sp_block_starts, W(0), W(1), D(2))
@@ -67,6 +70,8 @@ static const struct {
     BINARY(sp_binary_clue, make_clue, "0 1 2 9"),
     COLOURED(sp_clues, make_clues, "0 1 2 9"),
     BINARY(sp_binary_clues, make_clues, "0 1 2 9"),
+    BINARY(sp_read_pbm, make_text, "0 1 2 11"),
+    BINARY(sp_write_pbm, make_drawing, "0 1 2 9"),
     COLOURED(sp_partial_sums, make_sums, "0 2 3 4"),
     BINARY(sp_binary_partial_sums, make_sums, "0 2 3 4"),
     COLOURED(sp_block_starts, make_sums, "0 2 3 4"),
@@ -78,7 +83,7 @@ static const struct {
     BINARY(sp_binary_positions_number, make_positions, "0 1 3 4 10"),
 };
 
-enum { CALLS = sizeof calls / sizeof *calls, MOST_NUMBER = SP_NO_SPACE };
+enum { CALLS = sizeof calls / sizeof *calls, MOST_NUMBER = SP_BAD_TEXT };
 
 // ---- What a case leaves
 

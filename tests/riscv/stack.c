@@ -1,6 +1,6 @@
 // How much stack each call takes, a line for each. Just before a call the stack below is filled with a pattern, and how far down the call went
 // is where the pattern has changed. Lines, runs and blocks are tried with every number of equal blocks that fits 64 open cells, in a run for
-// all 64 rows and columns, so that the recursion goes as deep as it can; clues with such a picture of 64 by 64.
+// all 64 rows and columns, so that the recursion goes as deep as it can; clues and texts with such a picture of 64 by 64.
 #define _XOPEN_SOURCE 700
 #include <pthread.h>
 #include <stdio.h>
@@ -14,7 +14,7 @@ enum { STACK = 1 << 17, PATTERN = 0xa5, LENGTH = SP_MOST_CELLS, CELLS = LENGTH *
 static uint32_t cells[CELLS], codes[CELLS], counts[LENGTH], sizes[CELLS], colours[CELLS], out[LENGTH], report[CELLS], lines[SP_STACK_ENTRIES];
 static uint32_t row_counts[LENGTH], row_sizes[CELLS], row_colours[CELLS], column_counts[LENGTH], column_sizes[CELLS], column_colours[CELLS];
 static uint64_t wide[LENGTH], wider[LENGTH];
-static uint8_t memo[SP_MEMO_BYTES], *stack;
+static uint8_t memo[SP_MEMO_BYTES], text[SP_PBM_BYTES], *stack;
 static size_t depth;
 
 // ---- The stack below
@@ -67,6 +67,8 @@ PROBE(.number, sp_clues, LENGTH, LENGTH, codes, CELLS, 1, row_counts, LENGTH, ro
       column_sizes, CELLS, column_colours, CELLS)
 PROBE(.number, sp_binary_clues, LENGTH, LENGTH, codes, CELLS, 1, row_counts, LENGTH, row_sizes, CELLS, column_counts, LENGTH, column_sizes,
       CELLS)
+PROBE(.number, sp_read_pbm, text, SP_PBM_BYTES, codes, CELLS)
+PROBE(.number, sp_write_pbm, LENGTH, LENGTH, codes, CELLS, text, SP_PBM_BYTES)
 PROBE(.number, sp_partial_sums, BLOCKS, wide, LENGTH)
 PROBE(.number, sp_binary_partial_sums, sizes, count, wide, LENGTH)
 PROBE(.number, sp_block_starts, BLOCKS, wide, LENGTH)
@@ -95,6 +97,8 @@ static const struct call {
     ENTRY(sp_binary_clue, 0, 0),
     ENTRY(sp_clues, 0, 0),
     ENTRY(sp_binary_clues, 0, 0),
+    ENTRY(sp_read_pbm, 0, 0),
+    ENTRY(sp_write_pbm, 0, 0),
     ENTRY(sp_partial_sums, 0, 0),
     ENTRY(sp_binary_partial_sums, 0, 0),
     ENTRY(sp_block_starts, 0, 0),
@@ -106,7 +110,7 @@ static const struct call {
     ENTRY(sp_binary_positions_number, 0, 0),
 };
 
-// Open cells, so many blocks of one size in each line, and a picture of such blocks.
+// Open cells, so many blocks of one size in each line, and a picture of such blocks, as codes and as text.
 static void prepare(const struct call *call, uint32_t size, uint32_t count) {
   for (size_t i = 0; i < CELLS; i++) {
     cells[i] = call->open;
@@ -115,6 +119,7 @@ static void prepare(const struct call *call, uint32_t size, uint32_t count) {
     codes[i] = i % LENGTH % (size + 1) < size ? 2 : 1;
   }
   for (size_t i = 0; i < LENGTH; i++) counts[i] = count;
+  sp_write_pbm(LENGTH, LENGTH, codes, CELLS, text, SP_PBM_BYTES);
   memset(memo, PATTERN, SP_MEMO_BYTES);
 }
 

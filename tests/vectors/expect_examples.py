@@ -7,6 +7,7 @@ import sys
 
 import example_blocks
 import example_lines
+import example_pbm
 import example_runs
 from usage import need_arguments
 
@@ -14,7 +15,7 @@ from usage import need_arguments
 def main():
     need_arguments(1, __doc__)
     what = sys.argv[1]
-    for layer in example_blocks, example_lines, example_runs:
+    for layer in example_blocks, example_lines, example_runs, example_pbm:
         for item in layer.all_cases():
             if isinstance(item, str):
                 if what == "stdin":

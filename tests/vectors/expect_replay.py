@@ -7,6 +7,7 @@ import sys
 from collections import Counter
 
 from reading import CALLS, LINE_CALLS
+from reading_pbm import PBM_CALLS
 from reading_runs import RUN_CALLS
 from usage import need_arguments
 
@@ -16,7 +17,7 @@ def main():
     with open(sys.argv[1]) as sample:
         lines = [line.split("#")[0].split() for line in sample]
     cases = Counter(int(words[0]) for words in lines if words)
-    for call, told in {**CALLS, **LINE_CALLS, **RUN_CALLS}.items():
+    for call, told in {**CALLS, **LINE_CALLS, **RUN_CALLS, **PBM_CALLS}.items():
         print(f"{told.name}: {cases[call]} cases, 0 differ")
     print(f"all calls: {sum(cases.values())} cases, 0 differ")
     print("the input was read to its end")

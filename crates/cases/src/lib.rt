@@ -1,6 +1,7 @@
 // The device's calls by their numbers, for the programs that show and replay them, and the cards of runs: two sides, a point, the report's
 // room, a grid, and the clues of rows and columns. The six lists of clues stand one after the other in one list, and a call is lent its parts.
 pub mod calls;
+pub mod pictures;
 pub mod runs;
 
 use vectors::lists;

@@ -2,3 +2,4 @@
 pub mod Unique
 pub mod Meaning
 pub mod Chains
+pub mod PictureChains

@@ -12,18 +12,21 @@ use Rattle.positions.specs.Calls.{PositionsNumber, ColorRanges}
 use Rattle.positions.proofs.Unique.{positions-number, color-ranges}
 use Rattle.picture.specs.Calls.{BinaryClues, ColouredClues}
 use Rattle.picture.proofs.Unique.{binary-clues, coloured-clues}
+use Rattle.pbm.specs.Calls.{ReadsPbm}
+use Rattle.pbm.proofs.Unique.{read-pbm}
 use Rattle.propagation.specs.Calls.{Ran}
-use Rattle.replies.specs.Replies.{Told, tellCount, tellClues, tellPositions, tellRun}
+use Rattle.replies.specs.Replies.{Told, tellCount, tellClues, tellPositions, tellPbm, tellRun}
 use Rattle.replies.specs.declared.count.CountReply.{CountReply}
 use Rattle.replies.specs.declared.number.PositionsReply.{PositionsReply}
 use Rattle.replies.specs.declared.clues.CluesReply.{CluesReply}
+use Rattle.replies.specs.declared.pictures.PbmReply.{PbmReply}
 use Rattle.replies.specs.declared.runs.RunReply.{RunReply}
 
 -- where what is said has at most one answer, at most one struct tells it
 pub told-one : {A B : Type 0} {tell : A → B} {S T : A → Type 0} {a b : B} (p : Told tell S a) (q : Told tell T b) → p .answer ≡ q .answer → a ≡ b
 told-one {tell = tell} p q e = p .tells ∙ ap tell e ∙ sym (q .tells)
 
--- calls that write one list: sums and starts, both kinds; a line's clue and `Description::new`, binary
+-- calls that write one list: sums and starts, both kinds; a line's clue and `Description::new`, binary; a picture's text
 pub list-one : {rules : List Rule} {vs out x y : List ℕ} {a b : CountReply} → Told tellCount (λ r. Writes rules vs out r x) a
     → Told tellCount (λ r. Writes rules vs out r y) b → (a ≡ b) × (x ≡ y)
 list-one p q = let t = one-list (p .says) (q .says) in (told-one p q (t .0), t .1)
@@ -58,6 +61,10 @@ pub coloured-clues-one : {e w h : ℕ} {g rc rs rt cc cs ct x y t z u v x′ y�
 coloured-clues-one p q =
     let k = coloured-clues (p .says) (q .says) in
     (told-one p q (k .0 .0), k .0 .1, k .0 .2, k .1, k .0 .3, k .0 .4, k .2)
+
+pub pbm-one : (text : List ℕ) {codes x y : List ℕ} {a b : PbmReply} → Told tellPbm (λ r. ReadsPbm text codes r x) a
+    → Told tellPbm (λ r. ReadsPbm text codes r y) b → (a ≡ b) × (x ≡ y)
+pbm-one text p q = let t = read-pbm text (p .says) (q .says) in (told-one p q (t .0), t .1)
 
 -- all four runs. If the input is refused by checking, the memo and the stack are the same, too
 pub run-one : {rules : List Rule} {end : Outcome} {board grid report memo stack g p m k g₂ p₂ m₂ k₂ : List ℕ} {a b : RunReply}

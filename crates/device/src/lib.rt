@@ -2,4 +2,5 @@
 pub mod blocks;
 pub mod clues;
 pub mod lines;
+pub mod pictures;
 pub mod runs;

@@ -1,7 +1,8 @@
-// Writes answers: document 01's number, and the values that come with 0.
+// Writes answers: the documents' number, and the values that come with 0.
 use replies::clues::CluesReply;
 use replies::count::CountReply;
 use replies::number::PositionsReply;
+use replies::pictures::PbmReply;
 use vectors::lists::widen;
 use vectors::report::write_number;
 use vectors::report::write_text;
@@ -28,11 +29,20 @@ pub(crate) fn write_positions(reply: PositionsReply) {
     write_with(reply.number, reply.positions);
 }
 
-pub(crate) fn write_totals(reply: CluesReply) {
-    write_with(reply.number, reply.rows as u64);
-    if reply.number == 0 {
-        write_number(reply.columns as u64);
+// The number, and with 0 two values.
+fn write_pair(number: u32, first: usize, second: usize) {
+    write_with(number, first as u64);
+    if number == 0 {
+        write_number(second as u64);
     }
+}
+
+pub(crate) fn write_totals(reply: CluesReply) {
+    write_pair(reply.number, reply.rows, reply.columns);
+}
+
+pub(crate) fn write_sides(reply: PbmReply) {
+    write_pair(reply.number, reply.width, reply.height);
 }
 
 // The room of an output list; 0 where the case names none.

@@ -1,10 +1,11 @@
-// Runs document 01's examples and the limits of the public calls, and writes one line for each: the call, what it is given, the
+// Runs the documents' examples and the limits of the public calls, and writes one line for each: the call, what it is given, the
 // answer's number and values, and what it leaves in each lent list. Standard input has the cases, as the scripts of tests/vectors
 // write them.
 mod answers;
 mod blocks;
 mod clues;
 mod lines;
+mod pictures;
 mod runs;
 
 use vectors::reader;
@@ -19,6 +20,7 @@ fn show_call(call: u64, buffer: &mut [u8], reader: Reader) -> Reader {
         6 | 7 | 12 | 13 => clues::show(call, buffer, reader),
         14 | 15 => lines::show(call, buffer, reader),
         16..=19 => runs::show(call, buffer, reader),
+        20 | 21 => pictures::show(call, buffer, reader),
         _ => reader::fail(reader),
     }
 }

@@ -23,6 +23,10 @@ sets-append : (out : List ℕ) (i : ℕ) (xs ys : List ℕ) → sets out i (xs +
 sets-append out i [] ys = ap (λ n. sets out n ys) (sym (add-zero i))
 sets-append out i (x ∷ xs) ys = sets-append (set out i x) (suc i) xs ys ∙ ap (λ n. sets (sets (set out i x) (suc i) xs) n ys) (omega arith)
 
+-- the list stays as long as it was
+pub put-length : {out vs out′ : List ℕ} {i r : ℕ} → Put out i vs r out′ → length out′ ≡ length out
+put-length {out} {vs} {i = i} p = ap length (p .holds) ∙ length-sets out i vs
+
 module _ {out₀ : List ℕ} {i₀ : ℕ} {vs₀ out : List ℕ} {i : ℕ} {vs : List ℕ} (g : Going out₀ i₀ vs₀ out i vs) where
   -- one value is written
   pub going-put : {v : ℕ} {us : List ℕ} → vs ≡ v ∷ us → Going out₀ i₀ vs₀ (set out i v) (i + 1) us
@@ -37,7 +41,7 @@ module _ {out₀ : List ℕ} {i₀ : ℕ} {vs₀ out : List ℕ} {i : ℕ} {vs :
   going-puts {out′} {xs} {us} {j} e p = record {
     same = ap₂ (λ l n. sets l n us) (p .holds) (p .end) ∙ sym (sets-append out i xs us) ∙ sym (ap (λ l. sets out i l) e) ∙ g .same;
     count = omega (arith, ap length e, length-append xs us, g .count, p .end);
-    long = ap length (p .holds) ∙ length-sets out i xs ∙ g .long;
+    long = put-length p ∙ g .long;
   }
 
   -- nothing is

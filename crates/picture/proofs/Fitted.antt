@@ -33,3 +33,14 @@ fitted w h p rc rs cc cs e =
       column-counts = leb-true w cc (f .0);
       column-sizes = leb-true (w * h) cs (f .1);
     }
+
+-- and what they ask
+pub fits-all : {w h p rc rs cc cs : ℕ} → Fitted w h p rc rs cc cs → gridFits w h p rc rs cc cs ≡ true
+fits-all {w} {h} {p} {rc} {rs} {cc} {cs} f =
+    rw (
+      eq-eqb p (w * h) (f .exact),
+      le-leb h rc (f .row-counts),
+      le-leb (w * h) rs (f .row-sizes),
+      le-leb w cc (f .column-counts),
+      le-leb (w * h) cs (f .column-sizes),
+    )

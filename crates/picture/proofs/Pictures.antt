@@ -38,7 +38,7 @@ front : {v : Verdict} (vs out out′ : List ℕ) (n : ℕ) → v ≡ Fine → ou
 front vs out out′ n e q l = ap (take n) (q ∙ rw e refl) ∙ take-at vs (drop (length vs) out) n l
 
 -- a call that answered with counts refused nothing
-done-fine : (v : Verdict) (a b m n : ℕ) → cluesReply (Clues.Done m n) ≡ reply v (a ∷ b ∷ []) → (v ≡ Fine) × (m ≡ a) × (n ≡ b)
+pub done-fine : (v : Verdict) (a b m n : ℕ) → cluesReply (Clues.Done m n) ≡ reply v (a ∷ b ∷ []) → (v ≡ Fine) × (m ≡ a) × (n ≡ b)
 done-fine Fine a b m n e = (refl, cc, cc)
 done-fine (Bad w) a b m n e = let h = ap length e in absurd (omega arith)
 

@@ -1,8 +1,9 @@
-// Replays the samples that the crate answered: standard input has the cases, and standard output tells for each call how many were
-// replayed and how many differ. A sample's header says what a case holds, and tests/vectors how it is made.
+// Replays the samples that the crate answered, and that of plain PBM: standard input has the cases, and standard output tells for each call how
+// many were replayed and how many differ. A sample's header says what a case holds, and tests/vectors how it is made.
 mod blocks;
 mod clues;
 mod lines;
+mod pictures;
 mod runs;
 
 use vectors::lists::Found;
@@ -19,11 +20,11 @@ struct Turn {
     reader: Reader,
 }
 
-// One count for each call's number, from 0 to 19.
-fn make_counts() -> [u64; 20]
-    ensures { λ r. ⌜ 20 ≡ length r ⌝ }
+// One count for each call's number, from 0 to 21.
+fn make_counts() -> [u64; 22]
+    ensures { λ r. ⌜ 22 ≡ length r ⌝ }
 {
-    [0; 20]
+    [0; 22]
 }
 
 // Replays one case by the call's number.
@@ -33,6 +34,7 @@ fn replay_call(case: u64, call: u64, buffer: &mut [u8], reader: Reader) -> Found
         6 | 7 | 12 | 13 => clues::replay(call, buffer, reader),
         14 | 15 => lines::replay(case, call, buffer, reader),
         16..=19 => runs::replay(case, call, buffer, reader),
+        20 | 21 => pictures::replay(case, call, buffer, reader),
         _ => Found {
             differing: 1,
             reader: reader::fail(reader),
@@ -120,6 +122,11 @@ fn write_runs(cases: &[u64], differing: &[u64]) {
     report::write_call(b"sp_run_binary_point", 19, cases, differing);
 }
 
+fn write_pictures(cases: &[u64], differing: &[u64]) {
+    report::write_call(b"sp_read_pbm", 20, cases, differing);
+    report::write_call(b"sp_write_pbm", 21, cases, differing);
+}
+
 fn main() {
     let mut buffer = io::large_buffer();
     let mut cases = make_counts();
@@ -129,5 +136,6 @@ fn main() {
     write_binary(&cases, &differing);
     write_lines(&cases, &differing);
     write_runs(&cases, &differing);
+    write_pictures(&cases, &differing);
     report::write_end(&cases, &differing, end.faulty);
 }

@@ -11,10 +11,13 @@ use Rattle.positions.specs.declared.NumberAnswer.{NumberAnswer}
 use Rattle.positions.specs.declared.NumberAnswer.the-variants as number
 use Rattle.picture.specs.declared.CluesAnswer.{CluesAnswer}
 use Rattle.picture.specs.declared.CluesAnswer.the-variants as clues
+use Rattle.pbm.specs.declared.PbmAnswer.{PbmAnswer}
+use Rattle.pbm.specs.declared.PbmAnswer.the-variants as pbm
 use Rattle.run.specs.Ends.{Reply}
 use Rattle.replies.specs.declared.count.CountReply.{CountReply}
 use Rattle.replies.specs.declared.number.PositionsReply.{PositionsReply}
 use Rattle.replies.specs.declared.clues.CluesReply.{CluesReply}
+use Rattle.replies.specs.declared.pictures.PbmReply.{PbmReply}
 use Rattle.replies.specs.declared.runs.RunReply.{RunReply}
 
 -- r is what an answer tells of which the call's own statement holds
@@ -23,7 +26,7 @@ pub record Told {A B : Type 0} (tell : A → B) (Says : A → Type 0) (r : B) : 
   pub says : Says answer
   pub tells : r ≡ tell answer
 
--- ---- document 01's number, and the values that come with 0; with a refusal these are 0
+-- ---- the documents' number, and the values that come with 0; with a refusal these are 0
 
 -- how many entries are written
 abbrev pub tellCount : ListAnswer → CountReply
@@ -39,6 +42,11 @@ tellClues (clues.Refused w) = record { number = refusalNumber w; rows = 0; colum
 abbrev pub tellPositions : NumberAnswer → PositionsReply
 tellPositions (number.Number n) = record { number = 0; positions = n }
 tellPositions (number.Refused w) = record { number = refusalNumber w; positions = 0 }
+
+-- the sides of the picture that was read
+abbrev pub tellPbm : PbmAnswer → PbmReply
+tellPbm (pbm.Done w h) = record { number = 0; width = w; height = h }
+tellPbm (pbm.Refused w) = record { number = refusalNumber w; width = 0; height = 0 }
 
 -- ---- a run
 

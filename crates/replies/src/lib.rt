@@ -2,4 +2,5 @@
 pub mod clues;
 pub mod count;
 pub mod number;
+pub mod pictures;
 pub mod runs;

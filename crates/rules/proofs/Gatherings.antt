@@ -47,7 +47,7 @@ counts-at (bs ∷ L) zero = refl
 counts-at (bs ∷ L) (suc i) = counts-at L i
 
 -- what gives as many entries as a line has blocks gives as many in all as the counts say
-counts-sum : (F : List Block → List ℕ) → ((bs : List Block) → length (F bs) ≡ length bs) → (L : List (List Block))
+pub counts-sum : (F : List Block → List ℕ) → ((bs : List Block) → length (F bs) ≡ length bs) → (L : List (List Block))
     → length (gathered F L) ≡ sum (gathered countOf L)
 counts-sum F e [] = refl
 counts-sum F e (bs ∷ L) = omega (arith, counts-sum F e L, length-append (F bs) (gathered F L), e bs)

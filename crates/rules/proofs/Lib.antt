@@ -27,3 +27,5 @@ pub mod Runs
 pub mod Leavings
 pub mod Cards
 pub mod Examples
+pub mod PbmTexts
+pub mod PbmRounds

@@ -7,7 +7,7 @@ use lib.ListN.{length, getD}
 use Rattle.rules.specs.Block.{Block, sizesOf, coloursOf}
 use Rattle.rules.specs.Refusal.{refusalNumber, Rule, verdict, reply, listReply, written, Writes, WritesBlocks}
 use Rattle.rules.specs.declared.Refusal.{Refusal}
-use Rattle.rules.specs.declared.Refusal.the-variants.{BadLength, BadRoom, TooManyBlocks, BadBlock, BadCell, OutsideGrid, ShortReport, BadCode, NoSpace}
+use Rattle.rules.specs.declared.Refusal.the-variants.{BadLength, BadRoom, TooManyBlocks, BadBlock, BadCell, OutsideGrid, ShortReport, BadCode, NoSpace, BadText}
 use Rattle.rules.specs.declared.Verdict.{Verdict}
 use Rattle.rules.specs.declared.Verdict.the-variants.{Fine, Bad}
 use Rattle.rules.specs.declared.ListAnswer.{ListAnswer}
@@ -17,7 +17,7 @@ use Rattle.rules.specs.declared.ListAnswer.the-variants.{Done, Refused}
 abbrev byNumber : ℕ → Refusal
 byNumber n =
     getD
-    (BadLength ∷ BadLength ∷ BadRoom ∷ TooManyBlocks ∷ BadBlock ∷ BadCell ∷ OutsideGrid ∷ ShortReport ∷ BadLength ∷ BadCode ∷ NoSpace ∷ [])
+    (BadLength ∷ BadLength ∷ BadRoom ∷ TooManyBlocks ∷ BadBlock ∷ BadCell ∷ OutsideGrid ∷ ShortReport ∷ BadLength ∷ BadCode ∷ NoSpace ∷ BadText ∷ [])
     n BadLength
 
 number-back : (w : Refusal) → byNumber (refusalNumber w) ≡ w
@@ -30,6 +30,7 @@ number-back OutsideGrid = refl
 number-back ShortReport = refl
 number-back BadCode = refl
 number-back NoSpace = refl
+number-back BadText = refl
 
 pub number-one : (w u : Refusal) → refusalNumber w ≡ refusalNumber u → w ≡ u
 number-one w u e = sym (number-back w) ∙ ap byNumber e ∙ number-back u
@@ -45,6 +46,7 @@ by-checking OutsideGrid = (λ e. omega arith, λ e. omega arith)
 by-checking ShortReport = (λ e. omega arith, λ e. omega arith)
 by-checking BadCode = (λ e. omega arith, λ e. omega arith)
 by-checking NoSpace = (λ e. omega arith, λ e. omega arith)
+by-checking BadText = (λ e. omega arith, λ e. omega arith)
 
 pub head-one : {a b : ℕ} {l m : List ℕ} → a ∷ l ≡ b ∷ m → a ≡ b
 head-one e = cc

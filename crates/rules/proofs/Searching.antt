@@ -1,7 +1,7 @@
 -- A turn of a loop that looks for a number that passes a test, and what it tells to have found none.
 use mathlib.Core.Path.{_≡_, refl}
 use mathlib.Core.Bool.{Bool, true, false, cond}
-use mathlib.Core.List.{List, [], _∷_}
+use mathlib.Core.List.{List, [], _∷_, _++_}
 use Prim.Native.Nat.{ℕ, zero, suc, _+_, _≤_, _<_}
 use native.Mathlib.Numerals.{add-one}
 use native.Mathlib.Omega.{arith}
@@ -18,6 +18,14 @@ module _ (f : ℕ → Bool) (l : List ℕ) (i : ℕ) where
 
   pub any-end : length l ≤ i → anyOf f (drop i l) ≡ false
   any-end h = rw (drop-of-length-le l h)
+
+-- where no entry of a list passes a test, none of either part does
+pub any-parts : (f : ℕ → Bool) (xs ys : List ℕ) → anyOf f (xs ++ ys) ≡ false → (anyOf f xs ≡ false) × (anyOf f ys ≡ false)
+any-parts f [] ys e = (refl, e)
+any-parts f (d ∷ xs) ys e =
+    let p = cond-false (f d) (anyOf f (xs ++ ys)) e in
+    let q = any-parts f xs ys (p .1) in
+    (rw (p .0) (q .0), q .1)
 
 -- no number of the list is above n
 pub not-above : (n : ℕ) (l : List ℕ) → anyOf (λ k. ltb n k) l ≡ false → (i : ℕ) → getD l i 0 ≤ n

@@ -1,11 +1,11 @@
 -- What a verdict tells: it names the lowest number of a broken rule, and a call's reply tells its answer.
 use mathlib.Core.Path.{_≡_, refl, sym, ap, subst, _∙_}
-use mathlib.Core.Logic.{_⊎_, inl, inr}
+use mathlib.Core.Logic.{_⊎_, inl, inr, ⊎-elim}
 use mathlib.Core.Bool.{Bool, true, false, cond, not}
 use mathlib.Core.List.{List, [], _∷_, _++_, map, List·Memᴰ, List·Memᴰ·head, List·Memᴰ·tail, List·Memᴰ·not-nil, List·Memᴰ·cases-cons}
 use Prim.Native.Nat.{ℕ, _≤_, _<_}
 use native.Mathlib.Omega.{arith}
-use borrow.Author.Tests.{eqb-false, ltb-false, not-false, leb-true, eqb-true}
+use borrow.Author.Tests.{ne-eqb, le-ltb, eqb-false, ltb-false, not-false, leb-true, eqb-true}
 use lib.Dec.{eqb, ltb, leb}
 use lib.ListN.{length, getD, length-map}
 use Rattle.rules.specs.Block.{Lent, black, blocks, coloured, binary, illegal}
@@ -126,6 +126,25 @@ sides-fine w h q =
     let x = length-fine w (a .0) in
     let y = length-fine h (a .1) in
     (x .0, x .1, y .0, y .1)
+
+pub sides-good : (w h : ℕ) → (0 < w) × (w ≤ 64) × (0 < h) × (h ≤ 64) → verdict (sideRules w h) ≡ Fine
+sides-good w h g = rw (ne-eqb w 0 (λ e. omega (arith, g .0)), le-ltb 64 w (g .1), ne-eqb h 0 (λ e. omega (arith, g .2)), le-ltb 64 h (g .3))
+
+-- both sides are allowed, or the refusal is 1
+pub sides-cases : (w h : ℕ) → (verdict (sideRules w h) ≡ Fine) ⊎ (verdict (sideRules w h) ≡ Bad BadLength)
+sides-cases w h = go (eqb w 0) (ltb 64 w) (eqb h 0) (ltb 64 h)
+  where
+    go : (a b c d : Bool)
+        → (verdict (BadLength when a ∷ BadLength when b ∷ BadLength when c ∷ BadLength when d ∷ []) ≡ Fine)
+        ⊎ (verdict (BadLength when a ∷ BadLength when b ∷ BadLength when c ∷ BadLength when d ∷ []) ≡ Bad BadLength)
+    go true b c d = inr refl
+    go false true c d = inr refl
+    go false false true d = inr refl
+    go false false false true = inr refl
+    go false false false false = inl refl
+
+pub sides-bad : (w h : ℕ) → ((0 < w) × (w ≤ 64) × (0 < h) × (h ≤ 64) → ⊥) → verdict (sideRules w h) ≡ Bad BadLength
+sides-bad w h n = ⊎-elim (λ e. absurd (n (sides-fine w h e))) (λ e. e) (sides-cases w h)
 
 -- what the rules on lists of blocks leave
 pub record Counted (paired : Bool) (count : ℕ) (roomy : Bool) : Type 0 where

@@ -1,4 +1,4 @@
--- Refusals: document 01's numbers, the rules of a call in their order, and what a call leaves in the lists that it is lent.
+-- Refusals: the documents' numbers, the rules of a call in their order, and what a call leaves in the lists that it is lent.
 use mathlib.Core.Path.{_≡_}
 use mathlib.Core.Bool.{Bool, true, false, cond, not, _&&_}
 use mathlib.Core.List.{List, [], _∷_, _++_, List·Memᴰ}
@@ -9,7 +9,7 @@ use Rattle.rules.specs.Block.{Block, Lent, illegal, sizesOf, coloursOf}
 use Rattle.rules.specs.Packing.{minimalSpace}
 use Rattle.rules.specs.Ranges.{anyOf}
 use Rattle.rules.specs.declared.Refusal.{Refusal}
-use Rattle.rules.specs.declared.Refusal.the-variants.{BadLength, BadRoom, TooManyBlocks, BadBlock, BadCell, OutsideGrid, ShortReport, BadCode, NoSpace}
+use Rattle.rules.specs.declared.Refusal.the-variants.{BadLength, BadRoom, TooManyBlocks, BadBlock, BadCell, OutsideGrid, ShortReport, BadCode, NoSpace, BadText}
 use Rattle.rules.specs.declared.Verdict.{Verdict}
 use Rattle.rules.specs.declared.Verdict.the-variants.{Fine, Bad}
 use Rattle.rules.specs.declared.ListAnswer.{ListAnswer}
@@ -26,6 +26,7 @@ refusalNumber OutsideGrid = 6
 refusalNumber ShortReport = 7
 refusalNumber BadCode = 9
 refusalNumber NoSpace = 10
+refusalNumber BadText = 11
 
 -- ---- working memory: a memo of 65 × 64 bytes, and a stack that holds every line of a board of 64 × 64 once
 

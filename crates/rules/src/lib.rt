@@ -27,6 +27,7 @@ pub enum Refusal {
     ShortReport,
     BadCode,
     NoSpace,
+    BadText,
 }
 
 // What the rules say of an input: nothing, or the first that is broken.
@@ -41,7 +42,7 @@ pub enum ListAnswer {
     Refused(Refusal),
 }
 
-// Document 01's number of a refusal.
+// The documents' number of a refusal.
 pub fn refusal_number(refusal: Refusal) -> u32
     ensures { λ r. ⌜ r ≡ refusalNumber refusal ⌝ }
 {
@@ -55,5 +56,6 @@ pub fn refusal_number(refusal: Refusal) -> u32
         Refusal::ShortReport => 7,
         Refusal::BadCode => 9,
         Refusal::NoSpace => 10,
+        Refusal::BadText => 11,
     }
 }

@@ -1,10 +1,20 @@
-// Lists of bytes that a replayed call works in: made, filled with what the call could take for its own, and looked at again.
+// Lists of bytes that a replayed call works in, reads or writes: made, filled with what the call could take for its own, read from a file of
+// numbers, and looked at again.
+use crate::lists::Found;
+use crate::lists::Listed;
+use crate::lists::add_number;
+use crate::lists::expect;
+use crate::reader::Reader;
+use crate::reader::demand;
 ghost use mathlib.Core.Path.{_≡_};
 ghost use lib.ListN.{length};
 ghost use Rattle.io.specs.Counts.{Counts};
 ghost use Rattle.vectors.specs.Fillers.{byteAt, Filled};
 
-// Room for the memo of the longest line, and 64 to spare.
+// The largest entry of a list of bytes.
+const MOST_BYTE: u64 = 255;
+
+// Room for the memo of the longest line and 64 to spare, or for the text of the largest picture and 55 to spare.
 fn make() -> [u8; 4224]
     ensures { λ r. ⌜ 4224 ≡ length r ⌝ }
 {
@@ -60,4 +70,53 @@ pub(crate) fn written(turn: usize, list: &[u8]) -> usize
         end -= 1;
     }
     end
+}
+
+// Reads a count, and as many bytes into the front of the list. A count that the list has no room for is a fault.
+pub fn read(buffer: &mut [u8], reader: Reader, list: &mut [u8]) -> Listed
+    ensures { λ r. ⌜ Counts (r .count) (now (list .exit)) ⌝ }
+{
+    let counted = demand(buffer, reader, list.len() as u64);
+    let count = counted.value as usize;
+    let mut reader = counted.reader;
+    let mut i = 0;
+    while i < count {
+        let entry = demand(buffer, reader, MOST_BYTE);
+        list[i] = entry.value as u8;
+        reader = entry.reader;
+        i += 1;
+    }
+    Listed { count, reader }
+}
+
+fn widen(byte: u8) -> u64 {
+    byte as u64
+}
+
+// Compares how many bytes a call says that it wrote with the next number of the file, and a list that was filled, and lent to the call from
+// `first` on, with the bytes that come after it: these, and the filler before and after them.
+pub fn compare_from(
+    buffer: &mut [u8],
+    found: Found,
+    turn: usize,
+    first: usize,
+    told: usize,
+    list: &[u8],
+) -> Found {
+    let reader = found.reader;
+    let counted = demand(buffer, reader, list.len() as u64);
+    let count = counted.value as usize;
+    let mut found = add_number(found, told as u64, counted);
+    let mut i = 0;
+    while i < list.len() {
+        let at = i;
+        i += 1;
+        let reader = found.reader;
+        found = add_number(
+            found,
+            widen(list[at]),
+            expect(buffer, reader, first, at, count, widen(filler(turn, at))),
+        );
+    }
+    found
 }

@@ -277,21 +277,29 @@ pub fn read_picture(buffer: &mut [u8], reader: Reader, codes: &mut [u32]) -> Pic
     }
 }
 
-// What a list with `count` entries from `first` on should hold at an index: the next number of the file, and elsewhere the filler.
-fn expect(buffer: &mut [u8], reader: Reader, first: usize, index: usize, count: usize) -> Demanded {
+// What a list with `count` entries from `first` on should hold at an index: the next number of the file, and elsewhere what it was filled
+// with.
+pub(crate) fn expect(
+    buffer: &mut [u8],
+    reader: Reader,
+    first: usize,
+    index: usize,
+    count: usize,
+    filler: u64,
+) -> Demanded {
     if index >= first {
         if index - first < count {
             return demand(buffer, reader, u64::MAX);
         }
     }
     Demanded {
-        value: widen(filler(index)),
+        value: filler,
         reader,
     }
 }
 
 // One number more that a call gave, and the number that the file says.
-fn add_number(found: Found, given: u64, expected: Demanded) -> Found {
+pub(crate) fn add_number(found: Found, given: u64, expected: Demanded) -> Found {
     let reader = expected.reader;
     if given == expected.value {
         return Found {
@@ -330,7 +338,7 @@ pub fn compare_from(buffer: &mut [u8], found: Found, first: usize, list: &[u32])
         found = add_number(
             found,
             widen(list[at]),
-            expect(buffer, reader, first, at, count),
+            expect(buffer, reader, first, at, count, widen(filler(at))),
         );
     }
     found
@@ -355,7 +363,11 @@ pub fn compare_wide(buffer: &mut [u8], found: Found, list: &[u64]) -> Found {
         let at = i;
         i += 1;
         let reader = found.reader;
-        found = add_number(found, list[at], expect(buffer, reader, 0, at, count));
+        found = add_number(
+            found,
+            list[at],
+            expect(buffer, reader, 0, at, count, widen(filler(at))),
+        );
     }
     found
 }

@@ -117,6 +117,41 @@ pub fn write_left_wide(name: &[u8], list: &[u64]) {
     write_kept(list.len() - end);
 }
 
+// A byte of a text: itself where it can be printed, else its number between angle brackets, and so the sign `<`.
+fn write_byte(byte: u8) {
+    match byte {
+        b' '..=b';' | b'='..=b'~' => write_text(&[byte]),
+        _ => {
+            write_text(b"<");
+            io::print_decimal(STDOUT_FILENO, byte as u64);
+            write_text(b">");
+        }
+    }
+}
+
+fn write_bytes(text: &[u8]) {
+    let mut i = 0;
+    while i < text.len() {
+        write_byte(text[i]);
+        i += 1;
+    }
+}
+
+// A name and a text in quotes.
+pub fn write_quoted(name: &[u8], text: &[u8]) {
+    write_text(name);
+    write_text(b" \"");
+    write_bytes(text);
+    write_text(b"\"");
+}
+
+// A name, the text that was written to a filled list, and how many bytes after it are as they were.
+pub fn write_left_text(name: &[u8], turn: usize, list: &[u8]) {
+    let end = bytes::written(turn, list);
+    write_quoted(name, &list[..end]);
+    write_kept(list.len() - end);
+}
+
 // A name, and how many bytes of a filled list are as they were after the last that is not.
 pub fn write_left_bytes(name: &[u8], turn: usize, list: &[u8]) {
     write_text(name);

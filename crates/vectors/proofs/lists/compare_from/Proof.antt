@@ -30,6 +30,12 @@ shared-slice-read-widen c = search needs
 widen-requires : tie.Need-widen-requires Inv-loop μ-loop
 widen-requires c κs = search needs
 
+filler-requires : tie.Need-filler-requires Inv-loop μ-loop
+filler-requires c κs = search needs
+
+widen-requires-2 : tie.Need-widen-requires-2 Inv-loop μ-loop
+widen-requires-2 c κs = search needs
+
 expect-requires : tie.Need-expect-requires Inv-loop μ-loop
 expect-requires c κs = search needs
 
@@ -60,6 +66,8 @@ compare-from-spec =
     mul-widen
     shared-slice-read-widen
     widen-requires
+    filler-requires
+    widen-requires-2
     expect-requires
     add-number-requires
     loop-less

@@ -27,6 +27,12 @@ mul-add-number c = search needs
 shared-slice-read-add-number : tie.Need-shared-slice-read-add-number Inv-loop μ-loop
 shared-slice-read-add-number c = search needs
 
+filler-requires : tie.Need-filler-requires Inv-loop μ-loop
+filler-requires c κs = search needs
+
+widen-requires : tie.Need-widen-requires Inv-loop μ-loop
+widen-requires c κs = search needs
+
 expect-requires : tie.Need-expect-requires Inv-loop μ-loop
 expect-requires c κs = search needs
 
@@ -56,6 +62,8 @@ compare-wide-spec =
     add-i
     mul-add-number
     shared-slice-read-add-number
+    filler-requires
+    widen-requires
     expect-requires
     add-number-requires
     loop-less
