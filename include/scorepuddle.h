@@ -152,9 +152,9 @@ sp_run_answer sp_run_binary_point(size_t width, size_t height, size_t x, size_t 
 
 /* ---- Clues of pictures -------------------------------------------------------------------------------------------------------------
  *
- * A picture holds a code for each cell; blank is the code that stands for no block, any number. A clue is the maximal runs of equal codes
- * that are not blank. Coloured: a code that is not blank is a colour, one bit and not 1 (else 9). Binary: all codes that are not blank are
- * the same one (else 9). Numbers: 0 1 2 9. */
+ * A picture holds a code for each cell; blank is the code that stands for no block, any number. Coloured: a clue is the maximal runs of equal
+ * codes that are not blank, and such a code is a colour, one bit and not 1 (else 9). Numbers: 0 1 2 9. Binary: a clue is the maximal stretches
+ * of codes that are not blank; any code will do, and codes that differ and touch are one block (2,3 with blank 1: one of 2). Numbers: 0 1 2. */
 
 typedef struct sp_count {
     uint32_t number;

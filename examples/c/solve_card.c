@@ -1,5 +1,5 @@
-/* A black card, as a device would play it: a picture read from a text, its clues, a full run, a right mark, a wrong mark, a refusal, and
- * the solved board written as a text.
+/* A black card, as a device would play it: a picture read from a text, its clues, a row in two inks, a full run, a right mark, a wrong
+ * mark, a refusal, and the solved board written as a text.
  *
  * Build: rt staticlib device, then cc -I include examples/c/solve_card.c target/staticlib/libdevice.a */
 #include <stdio.h>
@@ -8,7 +8,7 @@
 #include "scorepuddle.h"
 
 enum { WIDTH = 5, HEIGHT = 5, CELLS = WIDTH * HEIGHT };
-enum { OPEN = 0, WHITE = 1, BLACK = 2 };
+enum { OPEN = 0, WHITE = 1, BLACK = 2, PEN = 3 };
 
 /* All memory is the program's own: the library allocates nothing and keeps nothing. Memo and stack may hold anything before a call, so
  * one of each serves every call. */
@@ -75,6 +75,15 @@ static int read_scan(void) {
     return answer.number == SP_DONE && answer.width == WIDTH && answer.height == HEIGHT;
 }
 
+/* A row whose black was mended with a pen, of another code. Every code but the blank one is black, and what touches is one block. */
+static void print_mended_row(void) {
+    const uint32_t codes[WIDTH] = {BLACK, PEN, PEN, WHITE, BLACK};
+    uint32_t sizes[WIDTH];
+    sp_count answer = sp_binary_clue(codes, WIDTH, WHITE, sizes, WIDTH);
+    uint32_t blocks = (uint32_t)answer.count;
+    print_clues("a row in two inks", &blocks, 1, sizes);
+}
+
 /* Solves lines of the whole card until none can say more. */
 static sp_run_answer run(uint32_t *grid) {
     return sp_run_binary(WIDTH, HEIGHT, grid, CELLS, row_counts, HEIGHT, row_sizes, row_blocks, column_counts, WIDTH, column_sizes,
@@ -108,6 +117,7 @@ int main(void) {
     column_blocks = clues.columns;
     print_clues("rows", row_counts, HEIGHT, row_sizes);
     print_clues("columns", column_counts, WIDTH, column_sizes);
+    print_mended_row();
 
     /* A wrong mark at the very beginning, when every cell is open. */
     uint32_t grid[CELLS] = {OPEN};

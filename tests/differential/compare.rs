@@ -6,6 +6,7 @@ use std::{
 
 use crate::{
     drawing::Random,
+    inks::{has_several_inks, in_black_and_white, read_stretches},
     judge::judge,
     ours::Port,
     request::{Call, Request},
@@ -27,6 +28,8 @@ struct Counts {
     refused: BTreeMap<u32, u64>,
     /// The calls and the numbers that they were refused with.
     refusals: HashSet<(Call, bool, u32)>,
+    /// Clues of several inks.
+    inked: u64,
     differ: u64,
 }
 
@@ -39,11 +42,13 @@ pub struct Comparison {
     told: Instant,
 }
 
-/// What the port has to answer: what the crate does or, at a refusal by checking, what document 01 says. A run is held to both copies of the
-/// crate.
+/// What the port has to answer: what the crate does or, at a refusal by checking, what the documents say. A run is held to both copies of the
+/// crate. Clues of several inks are held to a reading of the documents, and to what the crate answers for the picture in black and white.
+#[derive(Default)]
 struct Expected {
     whole: String,
     untouched: Option<String>,
+    reading: Option<String>,
 }
 
 /// The end of an answer: the numbers of so many cells.
@@ -71,25 +76,32 @@ fn end_picture(request: &Request) -> Option<Vec<u32>> {
 
 impl Expected {
     fn new(request: &Request) -> Expected {
+        let none = Expected::default();
         let refusal = judge(request);
         if refusal != 0 {
-            return Expected { whole: refusal.to_string(), untouched: None };
+            return Expected { whole: refusal.to_string(), ..none };
+        }
+        if has_several_inks(request) {
+            let text = in_black_and_white(request).to_string();
+            let reading = Some(read_stretches(request));
+            return Expected { whole: untouched::answers::answer(&text), reading, ..none };
         }
         let text = request.to_string();
         if request.is_run() {
-            Expected { whole: stable::answers::answer(&text), untouched: Some(untouched::answers::answer(&text)) }
+            let untouched = Some(untouched::answers::answer(&text));
+            Expected { whole: stable::answers::answer(&text), untouched, ..none }
         } else {
-            Expected { whole: untouched::answers::answer(&text), untouched: None }
+            Expected { whole: untouched::answers::answer(&text), ..none }
         }
     }
 
-    /// The whole answer is the one expected; the untouched crate has the same number and, with 0, the same board.
+    /// The whole answer is the one expected, by the reading too; the untouched crate has the same number and, with 0, the same board.
     fn is_met(&self, request: &Request, answer: &str) -> bool {
         let untouched = self.untouched.as_ref().map_or(true, |theirs| {
             number(theirs) == number(answer)
                 && (number(answer) == "8" || board(theirs, request.cells.len()) == board(answer, request.cells.len()))
         });
-        self.whole == answer && untouched
+        self.whole == answer && untouched && self.reading.as_ref().map_or(true, |reading| reading == answer)
     }
 }
 
@@ -139,6 +151,7 @@ impl Comparison {
 
     fn count(&mut self, request: &Request, expected: &Expected) {
         self.group.comparisons += 1;
+        self.group.inked += u64::from(expected.reading.is_some());
         let compared = self.all.comparisons + self.group.comparisons;
         if compared % LOOKED == 0 && self.told.elapsed() > PATIENCE {
             eprintln!("{compared} comparisons so far");
@@ -173,17 +186,21 @@ impl Comparison {
     }
 
     fn show_answers(&mut self, request: &Request) {
-        let Expected { whole, untouched } = Expected::new(request);
+        let Expected { whole, untouched, reading } = Expected::new(request);
         println!("  expected:  {whole}");
         if let Some(theirs) = untouched {
             println!("  untouched: {theirs}");
+        }
+        if let Some(reading) = reading {
+            println!("  reading:   {reading}; the crate was asked in black and white");
         }
         println!("  the port:  {}", self.port.answer(request));
     }
 
     /// Tells what the group has compared, and begins the next.
     pub fn end_group(&mut self, name: &str) {
-        let Counts { comparisons, done, unsolvable, refused, refusals, differ } = std::mem::take(&mut self.group);
+        let Counts { comparisons, done, unsolvable, refused, refusals, inked, differ } =
+            std::mem::take(&mut self.group);
         let seconds = self.started.elapsed().as_secs();
         println!(
             "{name}: {comparisons} comparisons, {done} done, {unsolvable} unsolvable, {differ} differ; {seconds} s"
@@ -192,14 +209,26 @@ impl Comparison {
             let numbers: Vec<String> = refused.iter().map(|(number, times)| format!("{times} with {number}")).collect();
             println!("  refused: {}; {} pairs of a call and a number", numbers.join(", "), refusals.len());
         }
+        if inked > 0 {
+            println!("  of several inks: {inked}");
+        }
         self.started = Instant::now();
         self.all.comparisons += comparisons;
         self.all.differ += differ;
+        self.all.inked += inked;
+        for (number, times) in refused {
+            *self.all.refused.entry(number).or_default() += times;
+        }
     }
 
-    /// The last line, and whether nothing differs.
+    /// The last lines, and whether nothing differs.
     pub fn end(&self) -> bool {
-        println!("{} comparisons, {} differ", self.all.comparisons, self.all.differ);
-        self.all.differ == 0
+        let Counts { comparisons, refused, inked, differ, .. } = &self.all;
+        let refused: u64 = refused.values().sum();
+        println!("{} with the crate's own answer", comparisons - refused - inked);
+        println!("{inked} of several inks, with the reading's answer and the crate's in black and white");
+        println!("{refused} refused by checking, with the documents' number");
+        println!("{comparisons} comparisons, {differ} differ");
+        *differ == 0
     }
 }

@@ -4,6 +4,7 @@ use std::{env, process};
 
 mod compare;
 mod exhaustive;
+mod inks;
 mod judge;
 mod lent;
 mod ours;

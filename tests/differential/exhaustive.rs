@@ -118,13 +118,8 @@ fn blocks(comparison: &mut Comparison, coloured: bool, most: usize, colours: &[u
     }
 }
 
-/// Pictures of up to so many cells: every content, with each of the blank codes and, if coloured, two colours, else one other code.
-fn pictures(comparison: &mut Comparison, coloured: bool, most: usize) {
-    let sets: &[&[u32]] = if coloured {
-        &[&[1, 2, 4], &[2, 4, 8], &[0, 2, 4], &[u32::MAX, 2, 1 << 31]]
-    } else {
-        &[&[1, 2], &[2, 1], &[0, 1], &[7, u32::MAX]]
-    };
+/// Pictures of up to so many cells: every content of each of the sets of codes, in which the blank code is first.
+fn pictures(comparison: &mut Comparison, coloured: bool, most: usize, sets: &[&[u32]]) {
     for codes in sets {
         for length in 1..=most {
             for word in words(codes, length) {
@@ -148,9 +143,11 @@ fn compare_blocks(comparison: &mut Comparison) {
 }
 
 fn compare_clues(comparison: &mut Comparison) {
-    pictures(comparison, false, 12);
+    pictures(comparison, false, 12, &[&[1, 2], &[2, 1], &[0, 1], &[7, u32::MAX]]);
     comparison.end_group("clues, binary: lines and grids of every shape to 12 cells, 4 blank codes");
-    pictures(comparison, true, 9);
+    pictures(comparison, false, 9, &[&[1, 2, 3], &[2, 1, 3], &[0, 1, u32::MAX], &[u32::MAX, 0, 7]]);
+    comparison.end_group("clues, binary, 2 inks or fewer: lines and grids of every shape to 9 cells, 4 blank codes");
+    pictures(comparison, true, 9, &[&[1, 2, 4], &[2, 4, 8], &[0, 2, 4], &[u32::MAX, 2, 1 << 31]]);
     comparison.end_group("clues, 2 colours: lines and grids of every shape to 9 cells, 4 blank codes");
 }
 

@@ -1,4 +1,4 @@
-//! A small reading of document 01's table: which number a request is refused with by checking, and 0 if it is not.
+//! A small reading of document 01's table, with request #102: which number a request is refused with by checking, and 0 if it is not.
 use crate::{
     drawing::space,
     request::{Call, Request},
@@ -102,14 +102,9 @@ fn short_report(r: &Request) -> bool {
     r.room.words[1] < r.room_number()
 }
 
-/// A code that is not blank is no colour or, in a binary picture, differs from another.
+/// A code that is not blank is no colour. Binary pictures may have any codes.
 fn bad_code(r: &Request) -> bool {
-    let codes: Vec<u32> = r.cells.iter().copied().filter(|&code| code != r.blank).collect();
-    if r.coloured {
-        codes.iter().any(|&code| bad_colour(code))
-    } else {
-        codes.windows(2).any(|pair| pair[0] != pair[1])
-    }
+    r.coloured && r.cells.iter().any(|&code| code != r.blank && bad_colour(code))
 }
 
 /// The blocks need more than the length.

@@ -208,29 +208,36 @@ fn draw_block_call(random: &mut Random, coloured: bool) -> Request {
     Request::on_blocks(call, coloured, length, &sizes, &colours)
 }
 
-/// A picture whose blank code is any number, as is a binary picture's other code.
+/// 1, or a number of any length.
+fn draw_code(random: &mut Random) -> u32 {
+    if random.below(2) == 0 {
+        1
+    } else {
+        random.next() as u32 >> random.below(32)
+    }
+}
+
+/// The inks of a binary picture, none of them blank: one or, in three cases of five, several of any codes.
+fn draw_inks(random: &mut Random, blank: u32) -> Vec<u32> {
+    let mut inks = vec![draw_code(random)];
+    for _ in 0..[0, 0, 1, 2, 63][random.below(5)] {
+        inks.push(random.next() as u32 >> random.below(32));
+    }
+    inks.into_iter().map(|ink| if ink == blank { !blank } else { ink }).collect()
+}
+
+/// A picture whose blank code is any number, as are a binary picture's inks.
 fn draw_clue_call(random: &mut Random, coloured: bool) -> Request {
     let call = [Call::LineClue, Call::GridClues][random.below(2)];
     let (width, height) = match call {
         Call::LineClue => (1 + random.below(64), 1),
         _ => draw_sides(random),
     };
-    let palette = draw_palette(random, coloured);
-    let mut any = || {
-        if random.below(2) == 0 {
-            1
-        } else {
-            random.next() as u32 >> random.below(32)
-        }
-    };
-    let (blank, other) = (any(), any());
-    let other = if other == blank { !blank } else { other };
-    let picture = draw_picture(random, width, height, &palette).into_iter();
-    let codes = picture.map(|code| match (coloured, code) {
-        (_, 1) => blank,
-        (true, colour) => colour,
-        (false, _) => other,
-    });
+    let blank = draw_code(random);
+    let inks = if coloured { draw_palette(random, true) } else { draw_inks(random, blank) };
+    let numbers: Vec<u32> = (2..).take(inks.len()).collect();
+    let picture = draw_picture(random, width, height, &numbers).into_iter();
+    let codes = picture.map(|number| if number == 1 { blank } else { inks[number as usize - 2] });
     Request::on_picture(call, coloured, width, blank, codes.collect())
 }
 
@@ -242,7 +249,7 @@ pub fn draw_any(random: &mut Random, coloured: bool) -> Request {
 
 /// Requests for each scale of 1.
 const BLOCKS: f64 = 2e6;
-const CLUES: f64 = 5e5;
+const CLUES: f64 = 1e6;
 const LINES: f64 = 4e6;
 const RUNS: f64 = 3e5;
 

@@ -259,12 +259,21 @@ static void make_point_run(bool black) {
   number_count = 4;
 }
 
-// The picture's codes, under any number for blank and, binary, for black.
+// Inks of any codes: one or, half of the time, several.
+static void choose_codes(void) {
+  ink_count = one_in(2) ? 1 : MOST_INKS;
+  for (size_t i = 0; i < ink_count; i++) inks[i] = (uint32_t)draw();
+}
+
+// The picture's codes, under any number for blank. The inks of a binary picture are any numbers too, each cell's by itself.
 static void lend_codes(size_t count, bool black) {
-  uint32_t any = (uint32_t)draw();
+  if (black) choose_codes();
   blank = one_in(3) ? 1 : (uint32_t)draw();
   uint32_t *codes = lend("codes", READ, 4, count);
-  for (size_t i = 0; i < count; i++) codes[i] = picture[i] == 1 ? blank : black ? any : picture[i];
+  for (size_t i = 0; i < count; i++) {
+    uint32_t ink = black ? draw_ink() : picture[i];
+    codes[i] = picture[i] == 1 ? blank : ink;
+  }
 }
 
 static void make_clue(bool black) {

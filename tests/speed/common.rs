@@ -1,6 +1,6 @@
 //! What the measurements share: the seed, the colours, binary cells as numbers, the rows of the table and its means.
 use nonogrid::block::binary::BinaryColor;
-use std::arch::asm;
+use std::{arch::asm, time::Instant};
 
 pub const SEED: u64 = 7303;
 pub const COLOURS: [u32; 4] = [2, 4, 8, 16];
@@ -85,4 +85,48 @@ impl Table {
         }
         println!(". Seed {SEED}, {how}.");
     }
+}
+
+/// One round of a row: the crate's time and the port's, on the same inputs.
+pub type Round = Box<dyn FnMut() -> [f64; 2]>;
+
+/// One row of the table, and the least times so far.
+pub struct Row {
+    measured: Measured<'static>,
+    round: Round,
+    least: [f64; 2],
+}
+
+impl Row {
+    pub fn new(measured: Measured<'static>, round: Round) -> Row {
+        Row { measured, round, least: [f64::MAX; 2] }
+    }
+    fn measure(&mut self) {
+        let times = (self.round)();
+        self.least = [0, 1].map(|which| self.least[which].min(times[which]));
+    }
+}
+
+/// The time of the work, which is done several times over so many inputs, in microseconds an input.
+pub fn microseconds(repeats: usize, inputs: usize, mut work: impl FnMut()) -> f64 {
+    let start = Instant::now();
+    for _ in 0..repeats {
+        work();
+    }
+    start.elapsed().as_nanos() as f64 / (1000 * repeats * inputs) as f64
+}
+
+/// Measures the rows and prints them. A round goes through the whole table, so that a busy time of the machine does not fall on one row.
+pub fn measure(mut rows: Vec<Row>, rounds: usize, what: &str, inputs: &str) {
+    for round in 0..rounds {
+        if round % 250 == 0 {
+            eprintln!("measuring {}: round {} of {rounds}", what.to_lowercase(), round + 1);
+        }
+        rows.iter_mut().for_each(Row::measure);
+    }
+    let mut table = Table::default();
+    for Row { measured, least: [theirs, ours], .. } in &rows {
+        table.row(measured, *theirs, None, *ours);
+    }
+    table.tell(what, &format!("{inputs} a row, the least of {rounds} rounds"));
 }

@@ -1,8 +1,6 @@
 //! One line solved by the crate and by the port, in one process and on the same inputs: rows of microseconds a line.
 //! Usage: lines [ROUNDS]. Each number is the least of ten times that many rounds over the row's lines; both answers are compared first.
 #![allow(warnings)]
-use std::time::Instant;
-
 use nonogrid::{
     block::{
         base::{Block, Description},
@@ -18,7 +16,7 @@ mod common;
 mod drawing;
 #[path = "../../examples/rust/scorepuddle.rs"]
 mod scorepuddle;
-use common::{codes, made, palette, rounds, Measured, Table, OPEN, SEED};
+use common::{codes, made, measure, microseconds, palette, rounds, Measured, Round, Row, OPEN, SEED};
 use drawing::{place, space, Random};
 use scorepuddle::{sp_solve_binary_line, sp_solve_line, MEMO_BYTES};
 
@@ -123,18 +121,6 @@ impl Port {
     }
 }
 
-/// The time of the work over a row's lines, which is done several times, in microseconds a line.
-fn microseconds(mut work: impl FnMut()) -> f64 {
-    let start = Instant::now();
-    for _ in 0..REPEATS {
-        work();
-    }
-    start.elapsed().as_nanos() as f64 / (1000 * REPEATS * LINES) as f64
-}
-
-/// One round of a row: the crate's time and the port's, on the same lines.
-type Round = Box<dyn FnMut() -> [f64; 2]>;
-
 /// Compares the answers on binary lines, and makes their round.
 fn binary_round(cases: Vec<Case>, mut port: Port) -> Round {
     let given: Vec<_> = cases.iter().map(binary).collect();
@@ -146,8 +132,9 @@ fn binary_round(cases: Vec<Case>, mut port: Port) -> Round {
         told.map(|t| assert_eq!(codes(&t), port.out));
     }
     Box::new(move || {
-        let theirs = microseconds(|| given.iter().for_each(|g| drop(made(crate_solves(g)))));
-        let ours = microseconds(|| (0..LINES).for_each(|i| drop(made(port.binary(&cells[i], &cases[i])))));
+        let theirs = microseconds(REPEATS, LINES, || given.iter().for_each(|g| drop(made(crate_solves(g)))));
+        let ours =
+            microseconds(REPEATS, LINES, || (0..LINES).for_each(|i| drop(made(port.binary(&cells[i], &cases[i])))));
         [theirs, ours]
     })
 }
@@ -162,34 +149,18 @@ fn coloured_round(cases: Vec<Case>, mut port: Port) -> Round {
         told.map(|t| assert_eq!(t.iter().map(|c| c.0).collect::<Vec<u32>>(), port.out));
     }
     Box::new(move || {
-        let theirs = microseconds(|| given.iter().for_each(|g| drop(made(crate_solves(g)))));
-        let ours = microseconds(|| cases.iter().for_each(|c| drop(made(port.coloured(c)))));
+        let theirs = microseconds(REPEATS, LINES, || given.iter().for_each(|g| drop(made(crate_solves(g)))));
+        let ours = microseconds(REPEATS, LINES, || cases.iter().for_each(|c| drop(made(port.coloured(c)))));
         [theirs, ours]
     })
 }
 
-/// One row of the table, and the least times so far.
-struct Row {
-    measured: Measured<'static>,
-    round: Round,
-    least: [f64; 2],
-}
-
-impl Row {
-    fn new(length: usize, kind: &'static str, shape: &'static str, known: &'static str) -> Row {
-        let mut random = Random(SEED ^ ((length as u64) << 8));
-        let cases = (0..LINES).map(|_| case(&mut random, shape, known, length, kind)).collect();
-        let port = Port { memo: vec![0xa5; MEMO_BYTES], out: vec![0xdead_beef; length] };
-        Row {
-            measured: Measured { what: "line", cells: length.to_string(), kind, shape, known },
-            round: if kind == "binary" { binary_round(cases, port) } else { coloured_round(cases, port) },
-            least: [f64::MAX; 2],
-        }
-    }
-    fn measure(&mut self) {
-        let times = (self.round)();
-        self.least = [0, 1].map(|which| self.least[which].min(times[which]));
-    }
+fn row(length: usize, kind: &'static str, shape: &'static str, known: &'static str) -> Row {
+    let mut random = Random(SEED ^ ((length as u64) << 8));
+    let cases = (0..LINES).map(|_| case(&mut random, shape, known, length, kind)).collect();
+    let port = Port { memo: vec![0xa5; MEMO_BYTES], out: vec![0xdead_beef; length] };
+    let measured = Measured { what: "line", cells: length.to_string(), kind, shape, known };
+    Row::new(measured, if kind == "binary" { binary_round(cases, port) } else { coloured_round(cases, port) })
 }
 
 fn rows() -> Vec<Row> {
@@ -199,7 +170,7 @@ fn rows() -> Vec<Row> {
             for shape in ["sparse", "dense", "long", "ones"] {
                 for known in ["half-known", "open"] {
                     if shape != "ones" || known == "open" {
-                        rows.push(Row::new(length, kind, shape, known));
+                        rows.push(row(length, kind, shape, known));
                     }
                 }
             }
@@ -208,19 +179,6 @@ fn rows() -> Vec<Row> {
     rows
 }
 
-/// A round goes through the whole table, so that a busy time of the machine does not fall on one row.
 fn main() {
-    let rounds = ROUNDS * rounds();
-    let mut rows = rows();
-    for round in 0..rounds {
-        if round % 250 == 0 {
-            eprintln!("measuring lines: round {} of {rounds}", round + 1);
-        }
-        rows.iter_mut().for_each(Row::measure);
-    }
-    let mut table = Table::default();
-    for Row { measured, least: [theirs, ours], .. } in &rows {
-        table.row(measured, *theirs, None, *ours);
-    }
-    table.tell("Lines", &format!("{LINES} lines a row, the least of {rounds} rounds"));
+    measure(rows(), ROUNDS * rounds(), "Lines", &format!("{LINES} lines"));
 }

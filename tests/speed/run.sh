@@ -18,13 +18,13 @@ rounds=${3:-150}
 
 need rt cargo rustc
 build_device
-for name in lines runs; do
+for name in lines runs clues; do
   lay_out "$crate" "$out/$name" "$here/$name.rs"
   build_over_library "$out/$name" nonogrid
 done
 echo "| what | cells | kind | blocks, or picture | start | crate, µs | with its cache, µs | port, µs | crate / port | with its cache / port |"
 echo "|---|---|---|---|---|---|---|---|---|---|"
-for name in lines runs; do "$out/$name/target/release/$name" "$rounds"; done > "$out/told"
+for name in lines runs clues; do "$out/$name/target/release/$name" "$rounds"; done > "$out/told"
 grep '^|' "$out/told"
 echo
 grep -v '^|' "$out/told"

@@ -1,6 +1,6 @@
 """The examples and limits of the calls on blocks and clues: cases of the program examples, and the line that it must write for each.
 
-What is written comes from the independent reading of document 01 (reading.py), never from the program.
+What is written comes from the independent reading of the documents (reading.py), never from the program.
 """
 
 from reading import CALLS
@@ -149,7 +149,7 @@ def grid_cases(cases):
     cases.add(both, 3, 2, 1, [2, 2, 1, 1, 2, 2])
     cases.add(both, 1, 1, 0, [2])
     cases.add(both, 1, 1, 2, [2])
-    cases.add((7,), 2, 2, MOST, [2**31, MOST, 2, 2**31])
+    cases.add(both, 2, 2, MOST, [2**31, MOST, 2, 2**31])
     cases.add(both, 64, 64, 1, [2] * 4096)
     cases.add(both, 64, 1, 1, [1, 2] * 32)
     for width, height in (0, 1), (1, 0), (65, 1), (1, 65), (2**32, 2**32), (2**64 - 1, 2):
@@ -166,9 +166,38 @@ def grid_cases(cases):
     cases.add(both, 0, 2, 1, [3, 5, 6], rooms=[0] * 6)
 
 
+def ink_cases(cases):
+    cases.title("Clues of several inks, binary: touching, apart, three in a stretch, codes like black and white, every code another")
+    for codes in [2, 1, 3], [2, 3, 4], [3, 2, 1, 1, 4, 4, 2, 1, 5], [0, MOST], [2, 3] * 32:
+        cases.add((12,), 1, codes)
+    for blank in 0, 2, 3, MOST:
+        cases.add((12,), blank, [1, 3])
+        cases.add((12,), blank, [2, 1, 0, MOST, 3])
+    for blank in 9, 64:
+        cases.add((12,), blank, list(range(64)))
+    for width, height in (2, 1), (1, 2):
+        cases.add((13,), width, height, 1, [2, 3])
+    for codes in [2, 3, 4, 5], [2, 1, 1, 3], [2, 3, 1, 1], [2, 1, 3, 1]:
+        cases.add((13,), 2, 2, 1, codes)
+    for blank in 0, 2, 3, MOST:
+        cases.add((13,), 3, 2, blank, [1, 3, 2, 0, 1, MOST])
+    cases.add((13,), 8, 8, 9, list(range(64)))
+    cases.add((13,), 64, 64, 9, [row for row in range(64) for _ in range(64)])
+    cases.title("Clues of several inks, binary: room, several rules at once")
+    cases.add((12,), 1, [2, 3, 4], rooms=[3])
+    cases.add_short(12, 1, [2, 3, 4])
+    cases.add((12,), 1, list(range(65)))
+    cases.add((12,), 1, list(range(65)), rooms=[64])
+    cases.add((13,), 2, 2, 1, [2, 3, 4, 5], rooms=[2, 4, 2, 4])
+    cases.add_short(13, 2, 2, 1, [2, 3, 4, 5])
+    cases.add((13,), 2, 2, 1, [2, 3, 4])
+    cases.add((13,), 65, 1, 1, list(range(65)))
+    cases.add((13,), 65, 1, 1, [2, 3, 4], rooms=[0] * 4)
+
+
 def all_cases():
     cases = Cases()
-    for part in blocks_cases, line_cases, description_cases, clue_cases, grid_cases:
+    for part in blocks_cases, line_cases, description_cases, clue_cases, grid_cases, ink_cases:
         part(cases)
     return cases.items
 

@@ -1,8 +1,9 @@
 """Makes the fixed sample of the block layer: random inputs that the crate answers, with the crate's answers.
 
 Usage: make_blocks.py DRIVER [SEED] > blocks.txt, where DRIVER is the oracle's program (tests/oracle). The fixed sample has seed 7301;
-another seed makes another sample. Every answer is compared with the independent reading of document 01 (reading.py); a difference ends
-the script with an error and no file.
+another seed makes another sample. Every answer is compared with the independent reading of the documents (reading.py); a difference ends
+the script with an error and no file. The crate has its own answer to a binary picture of several inks (request #102), so it is asked for such
+a picture in black and white, and the reading is given the picture as it is.
 """
 
 import random
@@ -10,15 +11,20 @@ import subprocess
 import sys
 
 from drawing import fill_blocks
-from reading import CALLS
+from reading import BLACK, BLANK, CALLS
 from usage import need_arguments
 
 SEED = int(sys.argv[2]) if len(sys.argv) > 2 else 7301
 MOST_CODE = 2**32 - 1
 CASES_OF_LINES = 75
 CASES_OF_GRIDS = 50
+# The same for binary pictures of several inks: lines whose inks may touch, lines whose inks stand apart, and grids.
+TOUCHING_LINES = 24
+PARTED_LINES = 12
+INKED_GRIDS = 12
 # The calls whose cases are pictures; the others' are blocks.
 CLUE_CALLS = (6, 7, 12, 13)
+BINARY_CLUE_CALLS = (12, 13)
 # Rooms that no case of the sample is short of.
 ROOMY = [2**20] * 6
 
@@ -115,6 +121,38 @@ def draw_grid(coloured):
     return [width, height, blank, codes]
 
 
+def count_inks(blank, codes):
+    return len(set(codes) - {blank})
+
+
+def draw_several_inks(count):
+    """A blank code, and so many codes of two inks or more."""
+    while True:
+        blank = draw_code()
+        inks = [code for code in repeat(rng.randint(2, 6), draw_code) if code != blank]
+        codes = draw_codes(count, inks, blank)
+        if count_inks(blank, codes) > 1:
+            return [blank, codes]
+
+
+def draw_touching_line():
+    return draw_several_inks(max(2, draw_length()))
+
+
+def draw_parted_line():
+    """A line of several inks with a blank more wherever the code changes, so that no ink touches another."""
+    blank, drawn = draw_several_inks(rng.randint(2, 32))
+    codes = drawn[:1]
+    for code in drawn[1:]:
+        codes += [blank] * (code != codes[-1]) + [code]
+    return [blank, codes]
+
+
+def draw_inked_grid():
+    width, height = rng.randint(1, 6), rng.randint(2, 6)
+    return [width, height, *draw_several_inks(width * height)]
+
+
 def smooth_picture(width, height, inks, blank):
     """A picture whose rows and columns have long runs: discs of ink."""
     discs = [
@@ -193,6 +231,29 @@ def edge_grids(coloured):
     yield from large_grids(coloured)
 
 
+def edge_inks():
+    """The request's codes, the limits of codes, and lines in which every code is another, with blank among them and without."""
+    yield [1, [2, 3]]
+    yield [1, [2, 4]]
+    yield [1, [2, 1, 3]]
+    yield [2, [1, 3, 2, 3, 1]]
+    yield [0, [MOST_CODE, 1, 0, 2, MOST_CODE]]
+    yield [MOST_CODE, [0, 1, MOST_CODE, 0]]
+    yield [1, [0, MOST_CODE]]
+    yield [20, list(range(64))]
+    yield [64, list(range(64))]
+
+
+def edge_inked_grids():
+    """Two inks that touch in a row, in a column and in both; at a corner only; apart; and every code another."""
+    yield [2, 1, 1, [2, 3]]
+    yield [1, 2, 1, [2, 3]]
+    yield [2, 2, 1, [2, 3, 3, 2]]
+    yield [2, 2, 1, [2, 1, 1, 3]]
+    yield [3, 3, 0, [1, 0, 2, 0, 0, 0, 3, 0, MOST_CODE]]
+    yield [8, 8, 20, list(range(64))]
+
+
 def repeat(count, draw, *arguments):
     return [draw(*arguments) for _ in range(count)]
 
@@ -213,6 +274,8 @@ def draw_cases():
         sample[call] = [*edge_clues(coloured), *repeat(CASES_OF_LINES, draw_clue_line, coloured)]
     for call, coloured in (7, True), (13, False):
         sample[call] = [*edge_grids(coloured), *repeat(CASES_OF_GRIDS, draw_grid, coloured)]
+    sample[12] += [*edge_inks(), *repeat(TOUCHING_LINES, draw_touching_line), *repeat(PARTED_LINES, draw_parted_line)]
+    sample[13] += [*edge_inked_grids(), *repeat(INKED_GRIDS, draw_inked_grid)]
     return [(call, inputs) for call in sorted(sample) for inputs in sample[call]]
 
 
@@ -276,11 +339,26 @@ def ask(driver, cases):
     return [split_answer(call, inputs, line) for (call, inputs), line in zip(cases, lines)]
 
 
+def as_asked(call, inputs):
+    """What the crate is asked: a binary picture of several inks in black and white, everything else as it is."""
+    if call not in BINARY_CLUE_CALLS or count_inks(*inputs[-2:]) < 2:
+        return inputs
+    *sides, blank, codes = inputs
+    return [*sides, BLANK, [BLANK if code == blank else BLACK for code in codes]]
+
+
+def check_difference(driver):
+    """The crate's own answer to binary codes 2,3 is 1,1: the difference that is the reason not to ask it so."""
+    own = ask(driver, [(12, [1, [2, 3]])])
+    if own != [[[1, 1]]]:
+        sys.exit(f"the crate answers binary codes 2,3 with {own}, not with 1,1")
+
+
 def compare_with_reading(call, inputs, answer):
     number, values, written = CALLS[call].answer(ROOMY[: len(CALLS[call].outputs)], inputs)
     expected = list(written) if written else list(values)
     if number != 0 or expected != answer:
-        sys.exit(f"document 01 and the crate differ: call {call}, {inputs}: {number} {expected}, {answer}")
+        sys.exit(f"the documents and the crate differ: call {call}, {inputs}: {number} {expected}, {answer}")
 
 
 def write_case(call, inputs, answer):
@@ -319,10 +397,12 @@ def list_clues(call, answer):
 def main():
     need_arguments(1, __doc__)
     cases = draw_cases()
-    answers = ask(sys.argv[1], cases)
+    check_difference(sys.argv[1])
+    answers = ask(sys.argv[1], [(call, as_asked(call, inputs)) for call, inputs in cases])
     for (call, inputs), answer in zip(cases, answers):
         compare_with_reading(call, inputs, answer)
-    print(f"# The block layer's sample, made by make_blocks.py with seed {SEED}: {len(cases)} cases that the crate answered.")
+    print(f"# The block layer's sample, made by make_blocks.py with seed {SEED}: {len(cases)} cases that the crate answered,")
+    print("# those of binary pictures of several inks (two or more codes that are not blank) in black and white.")
     print("# One case a line: the call's number, its inputs, and the answer. [x] is a list: how many entries, and the entries.")
     print("# What a call does not have is 0 or empty.")
     print("# Calls on blocks: call length [sizes] [colours] value [codes] [more codes] [sums] [more sums].")

@@ -1,11 +1,13 @@
-"""An independent reading of document 01 for the calls on blocks, clues and lines: what each call answers, refusals included.
+"""An independent reading of document 01, and of request #102 on binary clues, for the calls on blocks, clues and lines: what each call
+answers, refusals included.
 
-It was written from the document alone and shares nothing with the port or the crate. Each call takes the rooms of the lists that it
+It was written from the documents alone and shares nothing with the port or the crate. Each call takes the rooms of the lists that it
 may write, then its inputs in the port's order, and answers (number, values, written): the document's number, the values that come
 with 0, and for each output list the entries written at its front. A refusal has no values and writes nothing.
 """
 
 from functools import reduce
+from itertools import groupby
 from operator import or_
 
 MOST_LENGTH = 64
@@ -113,10 +115,18 @@ def runs(line, blank):
     return [(size, code) for size, code in found if code != blank]
 
 
+def stretches(line, blank):
+    """The maximal stretches of codes that are not blank, whatever the codes, as (size, black)."""
+    parts = groupby(line, lambda code: code != blank)
+    return [(len(list(part)), BLACK) for inked, part in parts if inked]
+
+
+def clue_of(line, blank, coloured):
+    return runs(line, blank) if coloured else stretches(line, blank)
+
+
 def judge_codes(codes, blank, coloured):
-    other = [code for code in codes if code != blank]
-    refuse(9, coloured and not all(map(one_colour, other)))
-    refuse(9, not coloured and len(set(other)) > 1)
+    refuse(9, coloured and not all(one_colour(code) for code in codes if code != blank))
 
 
 def line_clue(coloured):
@@ -124,7 +134,7 @@ def line_clue(coloured):
         judge_lengths(len(codes))
         refuse(2, any(room < len(codes) for room in rooms))
         judge_codes(codes, blank, coloured)
-        clue = runs(codes, blank)
+        clue = clue_of(codes, blank, coloured)
         written = [s for s, _ in clue], [c for _, c in clue]
         return (len(clue),), written[: 1 + coloured]
 
@@ -133,7 +143,7 @@ def line_clue(coloured):
 
 def clue_lists(lines, blank, coloured):
     """One direction: the counts, the sizes and, if coloured, the colours."""
-    clues = [runs(line, blank) for line in lines]
+    clues = [clue_of(line, blank, coloured) for line in lines]
     lists = [len(c) for c in clues], [s for c in clues for s, _ in c], [d for c in clues for _, d in c]
     return lists[: 2 + coloured]
 

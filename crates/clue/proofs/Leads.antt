@@ -11,13 +11,15 @@ use mathlib.Core.Option.{none}
 use mathlib.Core.Path.{_≡_, refl, sym, ap, _∙_, ap₂, subst}
 use native.Mathlib.Numerals.{add-one}
 use native.Mathlib.Omega.{arith}
-use Rattle.clue.specs.Steps.{lead, entries, per}
+use Rattle.clue.specs.Steps.{lead, entries, per, clueIn}
+use Rattle.clue.specs.declared.Ink.{Ink}
+use Rattle.clue.specs.declared.Ink.the-variants.{Coloured, Black}
 use Rattle.clue.specs.declared.Part.{Part}
 use Rattle.clue.specs.declared.Part.the-variants.{Colour, Count, Size}
 use Rattle.rules.proofs.Clues.{clue-run, clue-length}
 use Rattle.rules.proofs.Tests.{Compared, eqb-cases}
 use Rattle.rules.specs.Block.{_of_}
-use Rattle.rules.specs.Clue.{Apart, runs, clue}
+use Rattle.rules.specs.Clue.{Apart, runs, clue, readBinary, blackWhite, blackClue}
 
 -- ---- the codes at the front
 
@@ -103,7 +105,12 @@ clue-end e l i h = rw (drop-of-length-le l h)
 
 -- ---- a line has at most an entry a cell
 
-pub entries-length : (p : Part) (e : ℕ) (l : List ℕ) → length (entries p (clue e l)) ≤ per p (length l)
+entries-length : (p : Part) (e : ℕ) (l : List ℕ) → length (entries p (clue e l)) ≤ per p (length l)
 entries-length Count e l = omega arith
 entries-length Size e l = omega (arith, clue-length e l, length-map (clue e l) (λ b. b .size))
 entries-length Colour e l = omega (arith, clue-length e l, length-map (clue e l) (λ b. b .colour))
+
+pub entries-low : (i : Ink) (p : Part) (e : ℕ) (l : List ℕ) → length (entries p (clueIn i e l)) ≤ per p (length l)
+entries-low Coloured p e l = entries-length p e l
+entries-low Black p e l =
+    subst (λ (n : ℕ). length (entries p (blackClue e l)) ≤ per p n) (length-map l (readBinary e)) (entries-length p 1 (blackWhite e l))

@@ -1,5 +1,4 @@
 pub mod Leads
-pub mod Searched
 pub mod Told
 pub mod Unique
 pub mod Order

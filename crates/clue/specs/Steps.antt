@@ -6,6 +6,9 @@ use lib.Dec.{eqb}
 use lib.ListN.{length}
 use Rattle.rules.specs.Block.{Block}
 use Rattle.rules.specs.Card.{countOf}
+use Rattle.rules.specs.Clue.{clue, blackClue}
+use Rattle.clue.specs.declared.Ink.{Ink}
+use Rattle.clue.specs.declared.Ink.the-variants.{Coloured, Black}
 use Rattle.clue.specs.declared.Part.{Part}
 use Rattle.clue.specs.declared.Part.the-variants.{Count, Size, Colour}
 
@@ -24,6 +27,11 @@ fields tint bs = map (λ b. field tint (b .size) (b .colour)) bs
 pub record Writable (line out : List ℕ) (i : ℕ) : Type 0 where
   pub few : length line ≤ 64
   pub room : i + length line ≤ length out
+
+-- the clue of a line, as its codes are taken
+abbrev pub clueIn : Ink → ℕ → List ℕ → List Block
+clueIn Coloured e l = clue e l
+clueIn Black e l = blackClue e l
 
 -- what a line gives to one of the lists, and how many entries that are at most, of n cells
 abbrev pub entries : Part → List Block → List ℕ

@@ -4,14 +4,14 @@ use rules::Verdict;
 use rules::judge::illegal_colour;
 use rules::judge::judge_length;
 ghost use mathlib.Core.Path.{_≡_};
-ghost use mathlib.Core.Bool.{cond, false, not};
+ghost use mathlib.Core.Bool.{cond, false};
 ghost use mathlib.Core.List.{_++_};
 ghost use lib.Dec.{eqb};
 ghost use lib.ListN.{length};
 ghost use Rattle.rules.specs.Block.{illegalColour};
-ghost use Rattle.rules.specs.Clue.{badCode, otherCode, mixedCode};
+ghost use Rattle.rules.specs.Clue.{badCode};
 ghost use Rattle.rules.specs.Refusal.{verdict, lengthRules};
-ghost use Rattle.clue.specs.Calls.{codeRules};
+ghost use Rattle.clue.specs.Calls.{roomRules, codeRules};
 
 fn bad_cell(code: u32, blank: u32) -> bool
     ensures { λ r. ⌜ r ≡ cond (eqb code blank) false (illegalColour code) ⌝ }
@@ -22,7 +22,7 @@ fn bad_cell(code: u32, blank: u32) -> bool
     illegal_colour(code)
 }
 
-// Rule 9, coloured: some code is neither blank nor a legal colour.
+// Rule 9: some code is neither blank nor a legal colour.
 pub fn bad_code(codes: &[u32], blank: u32) -> bool
     ensures { λ r. ⌜ r ≡ badCode blank (now (codes .entry)) ⌝ }
 {
@@ -36,41 +36,25 @@ pub fn bad_code(codes: &[u32], blank: u32) -> bool
     false
 }
 
-fn other_cell(cell: u32, code: u32, blank: u32) -> bool
-    ensures { λ r. ⌜ r ≡ cond (eqb cell blank) false (not (eqb cell code)) ⌝ }
+// Rule 2.
+pub fn judge_room(roomy: bool) -> Verdict
+    ensures { λ r. ⌜ r ≡ verdict (roomRules roomy) ⌝ }
 {
-    if cell == blank {
-        return false;
+    if !roomy {
+        return Verdict::Bad(Refusal::BadRoom);
     }
-    cell != code
+    Verdict::Fine
 }
 
-fn other_code(codes: &[u32], code: u32, blank: u32) -> bool
-    ensures { λ r. ⌜ r ≡ otherCode blank code (now (codes .entry)) ⌝ }
+// Rules 1 and 2 for a binary line.
+pub(crate) fn judge_binary_line(length: usize, roomy: bool) -> Verdict
+    ensures { λ r. ⌜ r ≡ verdict (lengthRules length ++ roomRules roomy) ⌝ }
 {
-    let mut i = 0;
-    while i < codes.len() {
-        if other_cell(codes[i], code, blank) {
-            return true;
-        }
-        i += 1;
+    let v = judge_length(length);
+    match v {
+        Verdict::Bad(w) => Verdict::Bad(w),
+        Verdict::Fine => judge_room(roomy),
     }
-    false
-}
-
-// Rule 9, binary: two different codes that are not blank.
-pub fn mixed_code(codes: &[u32], blank: u32) -> bool
-    ensures { λ r. ⌜ r ≡ mixedCode blank (now (codes .entry)) ⌝ }
-{
-    let mut i = 0;
-    while i < codes.len() {
-        let code = codes[i];
-        i += 1;
-        if code != blank {
-            return other_code(&codes[i..], code, blank);
-        }
-    }
-    false
 }
 
 // Rules 2 and 9.
@@ -86,7 +70,7 @@ pub fn judge_codes(roomy: bool, bad: bool) -> Verdict
     Verdict::Fine
 }
 
-// Rules 1, 2 and 9 for a line.
+// Rules 1, 2 and 9 for a coloured line.
 pub(crate) fn judge_line(length: usize, roomy: bool, bad: bool) -> Verdict
     ensures { λ r. ⌜ r ≡ verdict (lengthRules length ++ codeRules roomy bad) ⌝ }
 {

@@ -75,7 +75,7 @@ fn write_count(line: &[u32], blank: u32, out: &mut [u32], at: usize) -> usize
 }
 
 // The line's entries in one of the lists.
-pub fn write_line(line: &[u32], blank: u32, part: Part, out: &mut [u32], at: usize) -> usize
+pub(crate) fn write_line(line: &[u32], blank: u32, part: Part, out: &mut [u32], at: usize) -> usize
     requires { ⌜ (length (now line) ≤ 64) × (at + per part (length (now line)) ≤ length (now out)) ⌝ }
     ensures { λ r. ⌜ Put (now (out .entry)) at (entries part (clue blank (now (line .entry)))) r (now (out .exit)) ⌝ }
 {

@@ -9,7 +9,7 @@ use Rattle.rules.specs.Answer.{Within}
 use Rattle.rules.specs.Binary.{setOf}
 use Rattle.rules.specs.Board.{Picture}
 use Rattle.rules.specs.Card.{Card}
-use Rattle.rules.specs.Clue.{readCode, readBinary}
+use Rattle.rules.specs.Clue.{readCode, blackWhite}
 use Rattle.rules.specs.Refusal.{memoSize, stackSize}
 use Rattle.rules.specs.Run.{room}
 use Rattle.rules.proofs.Replies.{by-checking}
@@ -77,9 +77,9 @@ module _ (e w h : ℕ) (codes : List ℕ) {rc rs cc cs rc′ rs′ cc′ cs′ :
   -- the same on cells of at most 2, which are read as sets
   pub binary-clues-then-run : {grid report memo stack grid′ report′ memo′ stack′ : List ℕ} {y : RunReply}
       → Told tellRun (λ t. RunsBinary w h Full blackLent grid report memo stack t grid′ report′ memo′ stack′) y → ((i : ℕ) → getD grid i 0 ≤ 2)
-      → Within (map (readBinary e) codes) (map setOf grid)
+      → Within (blackWhite e codes) (map setOf grid)
       → room (map setOf grid) ≤ length report → memoSize ≤ length memo → stackSize ≤ length stack
-      → (y .number ≡ 0) × Within (map (readBinary e) codes) (map setOf grid′)
+      → (y .number ≡ 0) × Within (blackWhite e codes) (map setOf grid′)
   binary-clues-then-run {grid} {report} {memo} {stack} b low u r m s =
       let c = clues-done a z in
       let q = picture-of-binary-clues e w h (x .rows) (x .columns) codes c in

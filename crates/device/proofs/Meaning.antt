@@ -1,11 +1,23 @@
--- What the exported calls that solve or run say in the words of C: their number or their struct. s is Full for a full run, else a point.
+-- What the exported calls that solve or run, or tell binary clues, say in the words of C: their number or their struct. s is Full for a full
+-- run, else a point.
 use mathlib.Core.Path.{_≡_, sym, ap, _∙_}
 use mathlib.Core.List.{List, map}
-use Prim.Native.Nat.{ℕ}
-use lib.ListN.{length}
+use Prim.Native.Nat.{ℕ, _<_, _≤_}
+use lib.ListN.{length, take}
 use Rattle.rules.specs.Binary.{setOf}
-use Rattle.rules.specs.Block.{Lent}
-use Rattle.rules.specs.Card.{Card}
+use Rattle.rules.specs.Block.{Lent, black}
+use Rattle.rules.specs.Board.{Picture}
+use Rattle.rules.specs.Card.{Card, clueOf, Straight}
+use Rattle.rules.specs.Clue.{blackWhite}
+use Rattle.rules.specs.Placement.{Placement}
+use Rattle.rules.specs.Refusal.{GoodSides}
+use Rattle.rules.specs.declared.ListAnswer.the-variants.{Done}
+use Rattle.clue.specs.Calls.{BinaryClue}
+use Rattle.clue.proofs.Again.{own-clue}
+use Rattle.picture.specs.Calls.{BinaryClues, blackCardIn}
+use Rattle.picture.specs.declared.CluesAnswer.the-variants as clues
+use Rattle.picture.proofs.Fitted.{Fitted}
+use Rattle.picture.proofs.Pictures.{own-clues}
 use Rattle.line.specs.Calls.{SolvesLine, SolvesBinaryLine}
 use Rattle.line.proofs.Unique.{solves-alike}
 use Rattle.run.specs.Ends.{Reply}
@@ -15,7 +27,9 @@ use Rattle.propagation.specs.Calls.{RunsColoured, RunsBinary}
 use Rattle.propagation.proofs.Meaning.{halted}
 use Rattle.propagation.proofs.Unique.{ran-alike}
 use Rattle.device.specs.Halting.{HaltedAt}
-use Rattle.replies.specs.Replies.{Told, tellRun}
+use Rattle.replies.specs.Replies.{Told, tellCount, tellClues, tellRun}
+use Rattle.replies.specs.declared.count.CountReply.{CountReply}
+use Rattle.replies.specs.declared.clues.CluesReply.{CluesReply}
 use Rattle.replies.specs.declared.runs.RunReply.{RunReply}
 use Rattle.device.proofs.Unique.{told-one}
 
@@ -66,3 +80,25 @@ module _ {w h : ℕ} {s : Start} {c : Card} {grid report memo stack g x m k : Li
   pub binary-run-halted : Told tellRun (λ t. RunsBinary w h s c grid report memo stack t g x m k) r → r .number ≡ 8
       → HaltedAt w h s c (map setOf grid) r (map setOf g) x
   binary-run-halted p n = halted-at (p .tells) (halted (binary (p .says)) (sym (ap (λ u. u .number) (p .tells)) ∙ n))
+
+-- ---- binary clues: whatever the codes and the blank code e, with enough room the number is 0, and the line or picture as read agrees with the
+-- clues that the call left
+
+-- sp_binary_clue
+pub line-own-clue : (e : ℕ) (l : List ℕ) {sizes sizes′ : List ℕ} {x : CountReply} → 0 < length l → length l ≤ 64 → length l ≤ length sizes
+    → Told tellCount (λ r. BinaryClue e l sizes r sizes′) x
+    → (x .number ≡ 0) × Placement (map black (take (x .count) sizes′)) (length l) (blackWhite e l)
+line-own-clue e l {sizes′ = sizes′} {x = x} a b s c =
+    let o = own-clue e l a b s (c .says) in
+    let t : x ≡ tellCount (Done (o .count)) = c .tells ∙ ap tellCount (o .done) in
+    (ap (λ k. k .number) t, rw t (o .placed))
+
+-- sp_binary_clues: every row and every column
+pub picture-own-clues : (e w h : ℕ) (b : List ℕ) {rc rs cc cs rc′ rs′ cc′ cs′ : List ℕ} {x : CluesReply} → GoodSides w h
+    → Fitted w h (length b) (length rc) (length rs) (length cc) (length cs)
+    → Told tellClues (λ r. BinaryClues e w h b rc rs cc cs r rc′ rs′ cc′ cs′) x
+    → (x .number ≡ 0) × Picture (Straight w h (clueOf (blackCardIn w h (x .rows) (x .columns) rc′ rs′ cc′ cs′))) w h (blackWhite e b)
+picture-own-clues e w h b {x = x} g f c =
+    let o = own-clues e w h b g f (c .says) in
+    let t : x ≡ tellClues (clues.Done (o .rows) (o .columns)) = c .tells ∙ ap tellClues (o .done) in
+    (ap (λ k. k .number) t, rw t (o .picture))

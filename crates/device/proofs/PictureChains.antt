@@ -8,19 +8,20 @@ use borrow.Author.Tests.{le-leb}
 use lib.Dec.{leb}
 use lib.ListN.{length, take}
 use Rattle.rules.specs.Block.{Block}
-use Rattle.rules.specs.Clue.{badCode, mixedCode}
+use Rattle.rules.specs.Clue.{badCode}
 use Rattle.rules.specs.Refusal.{Rule, verdict, sideRules, written}
 use Rattle.rules.specs.declared.Verdict.the-variants.{Fine}
 use Rattle.rules.specs.declared.ListAnswer.{ListAnswer}
 use Rattle.rules.specs.declared.ListAnswer.the-variants as list
 use Rattle.rules.proofs.Replies.{by-checking, head-one}
 use Rattle.rules.proofs.Verdicts.{append-fine, sides-good}
-use Rattle.rules.proofs.PbmRounds.{drawn-codes, codes-coloured, codes-binary}
+use Rattle.rules.proofs.PbmRounds.{drawn-codes, codes-coloured}
 use Rattle.clue.specs.Calls.{codeRules}
 use Rattle.picture.specs.Calls.{cluesReply, gridFits, gridRules, GridLists, BinaryClues, ColouredClues}
 use Rattle.picture.specs.declared.CluesAnswer.{CluesAnswer}
 use Rattle.picture.specs.declared.CluesAnswer.the-variants as clues
-use Rattle.picture.proofs.Fitted.{fits-all}
+use Rattle.picture.proofs.Fitted.{Fitted, fits-all}
+use Rattle.picture.proofs.Pictures.{binary-fine}
 use Rattle.pbm.specs.Calls.{ReadsPbm, WritesPbm}
 use Rattle.pbm.specs.declared.PbmAnswer.{PbmAnswer}
 use Rattle.pbm.specs.declared.PbmAnswer.the-variants.{Done, Refused}
@@ -90,21 +91,19 @@ module _ (text : List ℕ) {codes codes′ : List ℕ} {x : PbmReply} (a : Told 
   coloured : badCode 1 codesIn ≡ false
   coloured = ap (badCode 1) codes-read ∙ codes-coloured (read .picture) (drawn-codes (read .text-of .drawn))
 
-  binary : mixedCode 1 codesIn ≡ false
-  binary = ap (mixedCode 1) codes-read ∙ codes-binary (read .picture) (drawn-codes (read .text-of .drawn))
-
   grid-fine : {t u : _} → t ≡ true → u ≡ false → verdict (gridRules (x .width) (x .height) t u) ≡ Fine
   grid-fine {t} {u} p q =
       append-fine (sideRules (x .width) (x .height)) (codeRules t u) (sides-good (x .width) (x .height) (read .sides)) ∙ rw (p, q)
 
   module _ (rc rs cc cs : List ℕ) (p : x .height ≤ length rc) (q : x .width * x .height ≤ length rs) (s : x .width ≤ length cc)
       (t : x .width * x .height ≤ length cs) where
-    fits : gridFits (x .width) (x .height) (length codesIn) (length rc) (length rs) (length cc) (length cs) ≡ true
-    fits = fits-all (record { exact = size; row-counts = p; row-sizes = q; column-counts = s; column-sizes = t })
+    fitted : Fitted (x .width) (x .height) (length codesIn) (length rc) (length rs) (length cc) (length cs)
+    fitted = record { exact = size; row-counts = p; row-sizes = q; column-counts = s; column-sizes = t }
 
     pub read-then-binary-clues : {rc′ rs′ cc′ cs′ : List ℕ} {y : CluesReply}
         → Told tellClues (λ r. BinaryClues 1 (x .width) (x .height) codesIn rc rs cc cs r rc′ rs′ cc′ cs′) y → y .number ≡ 0
-    read-then-binary-clues c = clues-zero (c .says) (grid-fine fits binary) (c .tells)
+    read-then-binary-clues c =
+        clues-zero (c .says) (binary-fine (x .width) (x .height) codesIn rc rs cc cs (read .sides) fitted) (c .tells)
 
     pub read-then-clues : {rt ct rc′ rs′ rt′ cc′ cs′ ct′ : List ℕ} {y : CluesReply} → x .width * x .height ≤ length rt
         → x .width * x .height ≤ length ct
@@ -113,4 +112,4 @@ module _ (text : List ℕ) {codes codes′ : List ℕ} {x : PbmReply} (a : Told 
       where
         all : (gridFits (x .width) (x .height) (length codesIn) (length rc) (length rs) (length cc) (length cs)
             && (leb (x .width * x .height) (length rt) && leb (x .width * x .height) (length ct))) ≡ true
-        all = rw (fits, le-leb (x .width * x .height) (length rt) m, le-leb (x .width * x .height) (length ct) n)
+        all = rw (fits-all fitted, le-leb (x .width * x .height) (length rt) m, le-leb (x .width * x .height) (length ct) n)

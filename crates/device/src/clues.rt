@@ -20,7 +20,7 @@ pub extern "C" fn sp_clue(
     tell_count(clue::multicolor::from_line(codes, blank, sizes, colours))
 }
 
-// The sizes of these runs, where all codes but the blank one are one code.
+// The clue of a binary line: the sizes of its maximal stretches of codes that are not blank.
 #[no_mangle]
 pub extern "C" fn sp_binary_clue(codes: &[u32], blank: u32, sizes: &mut [u32]) -> CountReply
     ensures { λ r. ⌜ Told tellCount (λ a. BinaryClue blank (now (codes .entry)) (now (sizes .entry)) a (now (sizes .exit))) r ⌝ }
@@ -58,7 +58,7 @@ pub extern "C" fn sp_clues(
     ))
 }
 
-// The same with sizes alone.
+// The clues of a binary picture: sizes alone.
 #[no_mangle]
 pub extern "C" fn sp_binary_clues(
     width: usize,

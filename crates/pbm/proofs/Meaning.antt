@@ -6,8 +6,8 @@ use Prim.Native.Nat.{ℕ, _*_, _≤_}
 use native.Mathlib.Omega.{arith}
 use lib.ListN.{length, take, drop}
 use lib.Seq.{take-append-seam}
-use Rattle.rules.specs.Pbm.{TextOf, GoodSides, Stage, a-picture, heading, readRules, sidesRead, codesRead, pbmText, writeRules}
-use Rattle.rules.specs.Refusal.{verdict, reply, left, written}
+use Rattle.rules.specs.Pbm.{TextOf, Stage, a-picture, heading, readRules, sidesRead, codesRead, pbmText, writeRules}
+use Rattle.rules.specs.Refusal.{GoodSides, verdict, reply, left, written}
 use Rattle.rules.specs.declared.Refusal.{Refusal}
 use Rattle.rules.specs.declared.Verdict.{Verdict}
 use Rattle.rules.specs.declared.Verdict.the-variants.{Fine, Bad}

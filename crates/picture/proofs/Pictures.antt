@@ -1,6 +1,6 @@
 -- What the calls for clues tell of pictures, from their statements alone.
 use Rattle.picture.proofs.Told.{binary-known, coloured-known}
-use Rattle.clue.proofs.Told.{codes-fine}
+use Rattle.clue.proofs.Told.{room-fine, codes-fine}
 use Prim.Native.Nat.{ℕ, _+_, _<_, _≤_, _*_}
 use lib.Dec.{eqb, leb}
 use lib.ListN.{length, take, drop, getD, length-map}
@@ -10,25 +10,28 @@ use mathlib.Core.List.{List, [], _∷_, map}
 use mathlib.Core.Path.{_≡_, refl, sym, ap, _∙_, subst}
 use native.Mathlib.Omega.{arith}
 use Rattle.picture.specs.Calls.{gridFits, cluesReply, GridLists, binaryCluesRules, colouredCluesRules, BinaryClues, ColouredClues, cardIn, blackCardIn}
+use Rattle.clue.specs.Calls.{roomRules}
 use Rattle.rules.specs.Colour.{Colour}
 use Rattle.rules.proofs.Boards.{place-lt, length-line, getD-line}
 use Rattle.rules.proofs.Clues.{clue-length}
-use Rattle.rules.proofs.Codes.{any-at, any-all, mixed-different, different-mixed}
+use Rattle.rules.proofs.Codes.{any-at, any-all}
 use Rattle.rules.proofs.Gatherings.{lines-counted, lines-paired, gatheredCard, gathered-clue, gathered-fine, inBlack, black-length, black-gathered}
-use Rattle.rules.proofs.Readings.{getD-map-lt, map-line, read-colour, read-placement, codes-legal, black-placement, black-colour, black-legal}
-use Rattle.rules.proofs.Verdicts.{sides-fine}
+use Rattle.rules.proofs.Readings.{getD-map-lt, map-line, read-colour, read-placement, codes-legal, black-placement, black-only, black-colour, black-legal}
+use Rattle.picture.proofs.Fitted.{Fitted, fits-all}
+use Rattle.rules.proofs.Verdicts.{sides-fine, sides-good, append-fine}
 use Rattle.rules.specs.Block.{Block, black, sizesOf, coloursOf, Legal, illegalColour}
 use Rattle.rules.specs.Board.{row, column, len, On, place, lineOf, Picture}
 use Rattle.rules.specs.Card.{clueOf, Straight, rowClues, columnClues, gathered, countOf}
 use Rattle.rules.specs.CardRules.{cardRules}
-use Rattle.rules.specs.Clue.{clue, badCode, mixedCode, readCode, readBinary}
+use Rattle.rules.specs.Clue.{clue, badCode, readCode, readBinary, blackWhite, blackClue}
 use Rattle.rules.specs.Placement.{Placement}
 use Rattle.rules.specs.Ranges.{anyOf}
-use Rattle.rules.specs.Refusal.{Rule, reply, verdict, sideRules, left, memoSize, stackSize}
+use Rattle.rules.specs.Refusal.{GoodSides, Rule, reply, verdict, sideRules, left, memoSize, stackSize}
 use Rattle.rules.specs.declared.LinePosition.{LinePosition}
 use Rattle.rules.specs.declared.LinePosition.the-variants.{Row, Column}
 use Rattle.rules.specs.declared.Verdict.{Verdict}
 use Rattle.rules.specs.declared.Verdict.the-variants.{Fine, Bad}
+use Rattle.picture.specs.declared.CluesAnswer.{CluesAnswer}
 use Rattle.picture.specs.declared.CluesAnswer.the-variants as Clues
 
 -- ---- the lists that a call left
@@ -42,13 +45,13 @@ pub done-fine : (v : Verdict) (a b m n : ℕ) → cluesReply (Clues.Done m n) �
 done-fine Fine a b m n e = (refl, cc, cc)
 done-fine (Bad w) a b m n e = let h = ap length e in absurd (omega arith)
 
-module _ (e w h m n : ℕ) (b : List ℕ) {rules : List Rule} {rc rs cc cs rc′ rs′ cc′ cs′ : List ℕ}
-    (c : GridLists rules (rowClues e w h b) (columnClues e w h b) rc rs cc cs (Clues.Done m n) rc′ rs′ cc′ cs′) where
+module _ (f : List ℕ → List Block) (w h m n : ℕ) (b : List ℕ) {rules : List Rule} {rc rs cc cs rc′ rs′ cc′ cs′ : List ℕ}
+    (c : GridLists rules (rowClues f w h b) (columnClues f w h b) rc rs cc cs (Clues.Done m n) rc′ rs′ cc′ cs′) where
   abbrev rows : List (List Block)
-  rows = rowClues e w h b
+  rows = rowClues f w h b
 
   abbrev columns : List (List Block)
-  columns = columnClues e w h b
+  columns = columnClues f w h b
 
   fine : (verdict rules ≡ Fine) × (m ≡ length (gathered sizesOf rows)) × (n ≡ length (gathered sizesOf columns))
   fine = done-fine (verdict rules) (length (gathered sizesOf rows)) (length (gathered sizesOf columns)) m n (c .answers)
@@ -57,9 +60,9 @@ module _ (e w h m n : ℕ) (b : List ℕ) {rules : List Rule} {rc rs cc cs rc′
   lists-back : (take h rc′ ≡ gathered countOf rows) × (take m rs′ ≡ gathered sizesOf rows) × (take w cc′ ≡ gathered countOf columns) ×
       (take n cs′ ≡ gathered sizesOf columns)
   lists-back = (
-    front (gathered countOf rows) rc rc′ h (fine .0) (c .row-counts) (lines-counted (λ y. clue e (lineOf w h b (row y))) h),
+    front (gathered countOf rows) rc rc′ h (fine .0) (c .row-counts) (lines-counted (λ y. f (lineOf w h b (row y))) h),
     front (gathered sizesOf rows) rs rs′ m (fine .0) (c .row-sizes) (sym (fine .1)),
-    front (gathered countOf columns) cc cc′ w (fine .0) (c .column-counts) (lines-counted (λ x. clue e (lineOf w h b (column x))) w),
+    front (gathered countOf columns) cc cc′ w (fine .0) (c .column-counts) (lines-counted (λ x. f (lineOf w h b (column x))) w),
     front (gathered sizesOf columns) cs cs′ n (fine .0) (c .column-sizes) (sym (fine .2)),
   )
 
@@ -72,33 +75,6 @@ line-none w h b size f good l o = any-all f (lineOf w h b l) (λ i p. at i (omeg
   where
     at : (i : ℕ) → i < len w h l → f (getD (lineOf w h b l) i 0) ≡ false
     at i q = rw (getD-line w h b l i q) (any-at f b (place w l i) good (omega (arith, place-lt w h l i o q)))
-
--- two different codes of a line are two of the picture
-line-unmixed : (e w h : ℕ) (b : List ℕ) → length b ≡ h * w → mixedCode e b ≡ false → (l : LinePosition) → On w h l
-    → mixedCode e (lineOf w h b l) ≡ false
-line-unmixed e w h b size good l o = go (mixedCode e (lineOf w h b l)) refl
-  where
-    there : (i : ℕ) → i < length (lineOf w h b l) → (place w l i < length b) × (getD (lineOf w h b l) i 0 ≡ getD b (place w l i) 0)
-    there i p = let q : i < len w h l = omega (arith, length-line w h b l) in (omega (arith, place-lt w h l i o q), getD-line w h b l i q)
-
-    go : (t : Bool) → mixedCode e (lineOf w h b l) ≡ t → t ≡ false
-    go true m =
-        let d = mixed-different e (lineOf w h b l) m in
-        let x = there (d .i) (d .i-in) in
-        let y = there (d .j) (d .j-in) in
-        sym
-        (different-mixed e b
-        (record {
-          i = place w l (d .i);
-          j = place w l (d .j);
-          i-in = x .0;
-          j-in = y .0;
-          i-shown = λ u. d .i-shown (x .1 ∙ u);
-          j-shown = λ u. d .j-shown (y .1 ∙ u);
-          apart = λ u. d .apart (x .1 ∙ u ∙ sym (y .1));
-        }))
-        ∙ good
-    go false m = refl
 
 -- a board read cell by cell is a picture, where each cell has one colour and each line as read is a placement
 picture-read : (f : ℕ → ℕ) (w h : ℕ) (b : List ℕ) (k : LinePosition → List Block) → length b ≡ h * w
@@ -113,8 +89,9 @@ picture-read f w h b k size single placed = record {
 }
 
 -- a line's clue has at most 64 blocks
-clue-few : (e w h : ℕ) (b : List ℕ) → verdict (sideRules w h) ≡ Fine → (l : LinePosition) → length (clue e (lineOf w h b l)) ≤ 64
-clue-few e w h b q l = omega (arith, clue-length e (lineOf w h b l), length-line w h b l, low l)
+line-few : (f : List ℕ → List Block) → ((k : List ℕ) → length (f k) ≤ length k) → (w h : ℕ) (b : List ℕ) → verdict (sideRules w h) ≡ Fine
+    → (l : LinePosition) → length (f (lineOf w h b l)) ≤ 64
+line-few f short w h b q l = omega (arith, short (lineOf w h b l), length-line w h b l, low l)
   where
     low : (l : LinePosition) → len w h l ≤ 64
     low (Row y) = sides-fine w h q .1
@@ -125,13 +102,13 @@ module _ {e w h m n : ℕ} {b rc rs rt cc cs ct rc′ rs′ rt′ cc′ cs′ ct
   fits = gridFits w h (length b) (length rc) (length rs) (length cc) (length cs) && (leb (w * h) (length rt) && leb (w * h) (length ct))
 
   kept : verdict (colouredCluesRules e w h b rc rs rt cc cs ct) ≡ Fine
-  kept = fine e w h m n b (c .lists) .0
+  kept = fine (clue e) w h m n b (c .lists) .0
 
   tested : (verdict (sideRules w h) ≡ Fine) × (fits ≡ true) × (badCode e b ≡ false)
   tested = codes-fine (sideRules w h) fits (badCode e b) kept
 
   sized : length b ≡ h * w
-  sized = omega (arith, coloured-known e w h b rc rs cc cs rt ct kept .0 .size)
+  sized = omega (arith, coloured-known w h b rc rs cc cs e rt ct kept .0 .size)
 
   line-good : (l : LinePosition) → On w h l → badCode e (lineOf w h b l) ≡ false
   line-good l o = line-none w h b sized (λ x. cond (eqb x e) false (illegalColour x)) (tested .2) l o
@@ -139,16 +116,16 @@ module _ {e w h m n : ℕ} {b rc rs rt cc cs ct rc′ rs′ rt′ cc′ cs′ ct
   -- the lists as left hold the clues, line after line
   card-back : cardIn w h m n rc′ rs′ rt′ cc′ cs′ ct′ ≡ gatheredCard w h (λ l. clue e (lineOf w h b l))
   card-back =
-      let q = lists-back e w h m n b (c .lists) in
-      let k = fine e w h m n b (c .lists) in
+      let q = lists-back (clue e) w h m n b (c .lists) in
+      let k = fine (clue e) w h m n b (c .lists) in
       rw (
         q .0,
         q .1,
         q .2,
         q .3,
-        front (gathered coloursOf (rowClues e w h b)) rt rt′ m kept (c .colours .row-colours)
+        front (gathered coloursOf (rowClues (clue e) w h b)) rt rt′ m kept (c .colours .row-colours)
             (lines-paired (λ y. clue e (lineOf w h b (row y))) h ∙ sym (k .1)),
-        front (gathered coloursOf (columnClues e w h b)) ct ct′ n kept (c .colours .column-colours)
+        front (gathered coloursOf (columnClues (clue e) w h b)) ct ct′ n kept (c .colours .column-colours)
             (lines-paired (λ x. clue e (lineOf w h b (column x))) w ∙ sym (k .2)),
       )
 
@@ -169,35 +146,32 @@ module _ {e w h m n : ℕ} {b rc rs rt cc cs ct rc′ rs′ rt′ cc′ cs′ ct
       → verdict (cardRules w h cells (cardIn w h m n rc′ rs′ rt′ cc′ cs′ ct′) memo stack) ≡ Fine
   clues-lent cells memo stack p q r =
       gathered-fine w h (λ l. clue e (lineOf w h b l)) card-back cells memo stack (tested .0) p q r
-      (λ l o. codes-legal e (lineOf w h b l) (line-good l o)) (λ l o. clue-few e w h b (tested .0) l)
+      (λ l o. codes-legal e (lineOf w h b l) (line-good l o)) (λ l o. line-few (clue e) (clue-length e) w h b (tested .0) l)
 
--- ---- the same for binary clues: every code but the blank one is black
+-- ---- the same for binary clues, of any codes: every code but the blank one is black
 
 module _ (e w h m n : ℕ) (b : List ℕ) {rc rs cc cs rc′ rs′ cc′ cs′ : List ℕ} (c : BinaryClues e w h b rc rs cc cs (Clues.Done m n) rc′ rs′ cc′ cs′) where
-  binary-kept : verdict (binaryCluesRules e w h b rc rs cc cs) ≡ Fine
-  binary-kept = fine e w h m n b c .0
+  binary-kept : verdict (binaryCluesRules w h b rc rs cc cs) ≡ Fine
+  binary-kept = fine (blackClue e) w h m n b c .0
 
-  binary-tested : (verdict (sideRules w h) ≡ Fine) × (gridFits w h (length b) (length rc) (length rs) (length cc) (length cs) ≡ true) ×
-      (mixedCode e b ≡ false)
-  binary-tested =
-      codes-fine (sideRules w h) (gridFits w h (length b) (length rc) (length rs) (length cc) (length cs)) (mixedCode e b) binary-kept
+  binary-sides : verdict (sideRules w h) ≡ Fine
+  binary-sides = room-fine (sideRules w h) (gridFits w h (length b) (length rc) (length rs) (length cc) (length cs)) binary-kept .0
 
   binary-sized : length b ≡ h * w
-  binary-sized = omega (arith, binary-known e w h b rc rs cc cs binary-kept .0 .size)
+  binary-sized = omega (arith, binary-known w h b rc rs cc cs binary-kept .0 .size)
 
-  black-back : blackCardIn w h m n rc′ rs′ cc′ cs′ ≡ gatheredCard w h (λ l. inBlack (clue e (lineOf w h b l)))
+  black-back : blackCardIn w h m n rc′ rs′ cc′ cs′ ≡ gatheredCard w h (λ l. inBlack (blackClue e (lineOf w h b l)))
   black-back =
-      let q = lists-back e w h m n b c in
-      rw (q .0, q .1, q .2, q .3) (black-gathered w h (λ l. clue e (lineOf w h b l)))
+      let q = lists-back (blackClue e) w h m n b c in
+      rw (q .0, q .1, q .2, q .3) (black-gathered w h (λ l. blackClue e (lineOf w h b l)))
 
-  pub binary-clues-back : (l : LinePosition) → On w h l
-      → clueOf (blackCardIn w h m n rc′ rs′ cc′ cs′) l ≡ map black (sizesOf (clue e (lineOf w h b l)))
-  binary-clues-back l o = gathered-clue w h (λ k. inBlack (clue e (lineOf w h b k))) black-back l o
+  pub binary-clues-back : (l : LinePosition) → On w h l → clueOf (blackCardIn w h m n rc′ rs′ cc′ cs′) l ≡ blackClue e (lineOf w h b l)
+  binary-clues-back l o = gathered-clue w h (λ k. inBlack (blackClue e (lineOf w h b k))) black-back l o ∙ black-only e (lineOf w h b l)
 
-  pub picture-of-binary-clues : Picture (Straight w h (clueOf (blackCardIn w h m n rc′ rs′ cc′ cs′))) w h (map (readBinary e) b)
+  pub picture-of-binary-clues : Picture (Straight w h (clueOf (blackCardIn w h m n rc′ rs′ cc′ cs′))) w h (blackWhite e b)
   picture-of-binary-clues =
       picture-read (readBinary e) w h b (clueOf (blackCardIn w h m n rc′ rs′ cc′ cs′)) binary-sized (λ i p. black-colour e (getD b i 0))
-      (λ l o. rw (binary-clues-back l o) (black-placement e (lineOf w h b l) (line-unmixed e w h b binary-sized (binary-tested .2) l o)))
+      (λ l o. rw (binary-clues-back l o) (black-placement e (lineOf w h b l)))
 
   pub binary-clues-legal : (l : LinePosition) → On w h l → Legal (clueOf (blackCardIn w h m n rc′ rs′ cc′ cs′) l)
   binary-clues-legal l o = subst (λ (bs : List Block). Legal bs) (sym (binary-clues-back l o)) (black-legal e (lineOf w h b l))
@@ -205,5 +179,34 @@ module _ (e w h m n : ℕ) (b : List ℕ) {rc rs cc cs rc′ rs′ cc′ cs′ :
   pub binary-clues-lent : (cells memo stack : ℕ) → cells ≡ w * h → memoSize ≤ memo → stackSize ≤ stack
       → verdict (cardRules w h cells (blackCardIn w h m n rc′ rs′ cc′ cs′) memo stack) ≡ Fine
   binary-clues-lent cells memo stack p q r =
-      gathered-fine w h (λ l. inBlack (clue e (lineOf w h b l))) black-back cells memo stack (binary-tested .0) p q r
-      (λ l o. black-legal e (lineOf w h b l)) (λ l o. omega (arith, black-length (clue e (lineOf w h b l)), clue-few e w h b (binary-tested .0) l))
+      gathered-fine w h (λ l. inBlack (blackClue e (lineOf w h b l))) black-back cells memo stack binary-sides p q r
+      (λ l o. subst (λ (bs : List Block). Legal bs) (sym (black-only e (lineOf w h b l))) (black-legal e (lineOf w h b l)))
+      (λ l o. omega (arith, black-length (blackClue e (lineOf w h b l)), line-few (blackClue e) short w h b binary-sides l))
+    where
+      short : (k : List ℕ) → length (blackClue e k) ≤ length k
+      short k = omega (arith, clue-length 1 (blackWhite e k), length-map k (readBinary e))
+
+-- ---- every binary picture, whatever its codes and its blank code, agrees with its own clues, as the call left them
+
+-- a picture that fits, with room for its clues, breaks no rule
+pub binary-fine : (w h : ℕ) (b rc rs cc cs : List ℕ) → GoodSides w h → Fitted w h (length b) (length rc) (length rs) (length cc) (length cs)
+    → verdict (binaryCluesRules w h b rc rs cc cs) ≡ Fine
+binary-fine w h b rc rs cc cs g f =
+    append-fine (sideRules w h) (roomRules (gridFits w h (length b) (length rc) (length rs) (length cc) (length cs))) (sides-good w h g)
+    ∙ rw (fits-all f)
+
+-- the call is done, and each row and column of the picture as read is a placement of the clue that it left
+pub record OwnClues (e w h : ℕ) (b : List ℕ) (r : CluesAnswer) (rc′ rs′ cc′ cs′ : List ℕ) : Type 0 where
+  pub rows : ℕ
+  pub columns : ℕ
+  pub done : r ≡ Clues.Done rows columns
+  pub picture : Picture (Straight w h (clueOf (blackCardIn w h rows columns rc′ rs′ cc′ cs′))) w h (blackWhite e b)
+
+pub own-clues : (e w h : ℕ) (b : List ℕ) {rc rs cc cs rc′ rs′ cc′ cs′ : List ℕ} {r : CluesAnswer} → GoodSides w h
+    → Fitted w h (length b) (length rc) (length rs) (length cc) (length cs) → BinaryClues e w h b rc rs cc cs r rc′ rs′ cc′ cs′
+    → OwnClues e w h b r rc′ rs′ cc′ cs′
+own-clues e w h b {rc} {rs} {cc} {cs} {rc′} {rs′} {cc′} {cs′} {r} g f c = go r c
+  where
+    go : (s : CluesAnswer) → BinaryClues e w h b rc rs cc cs s rc′ rs′ cc′ cs′ → OwnClues e w h b s rc′ rs′ cc′ cs′
+    go (Clues.Done m n) k = record { rows = m; columns = n; done = refl; picture = picture-of-binary-clues e w h m n b k }
+    go (Clues.Refused u) k = let q = rw (binary-fine w h b rc rs cc cs g f) at (k .answers) in let l = ap length q in absurd (omega arith)

@@ -1,7 +1,7 @@
 -- The statements of the public calls, from what their parts tell.
 use Rattle.picture.specs.Calls.{binaryCluesRules, colouredCluesRules, gridFits, gridRules, GridLists, GridColours}
 use Rattle.clue.specs.Calls.{codeRules}
-use Rattle.rules.specs.Clue.{badCode, mixedCode, clue}
+use Rattle.rules.specs.Clue.{badCode}
 use Prim.Native.Nat.{_≤_, ℕ, zero, suc, _*_}
 use lib.Dec.{leb}
 use lib.ListN.{length, length-append}
@@ -10,12 +10,13 @@ use mathlib.Core.List.{List, [], _∷_}
 use mathlib.Core.Path.{_≡_, sym, _∙_, ap₂, subst}
 use native.Mathlib.Nat.{suc-mul}
 use native.Mathlib.Omega.{arith}
-use Rattle.clue.proofs.Leads.{entries-length}
-use Rattle.clue.proofs.Told.{codes-fine}
+use Rattle.clue.proofs.Leads.{entries-low}
+use Rattle.clue.proofs.Told.{room-fine, codes-fine}
 use Rattle.picture.proofs.Fitted.{fitted}
-use Rattle.clue.specs.Steps.{entries, per}
+use Rattle.clue.specs.Steps.{entries, per, clueIn}
 use Rattle.picture.specs.Steps.{GridRoom, CluesPut, ColoursPut}
 use Rattle.grid.specs.Grid.{Grid}
+use Rattle.clue.specs.declared.Ink.{Ink}
 use Rattle.clue.specs.declared.Part.{Part}
 use Rattle.clue.specs.declared.Part.the-variants.{Colour, Count, Size}
 use Rattle.loops.proofs.Going.{written-sets, put-count, put-written}
@@ -40,15 +41,16 @@ gathered-low F f p low k zero = omega arith
 gathered-low F f p low k (suc n) =
     omega (arith, low k, gathered-low F f p low (suc k) n, length-append (F (f k)) (gathered F (linesFrom f (suc k) n)), suc-mul n p)
 
-module _ (p : Part) (e w h : ℕ) (b : List ℕ) where
-  line-low : (l : LinePosition) → length (entries p (clue e (lineOf w h b l))) ≤ per p (len w h l)
-  line-low l = subst (λ (n : ℕ). length (entries p (clue e (lineOf w h b l))) ≤ per p n) (length-line w h b l) (entries-length p e (lineOf w h b l))
+module _ (i : Ink) (p : Part) (e w h : ℕ) (b : List ℕ) where
+  line-low : (l : LinePosition) → length (entries p (clueIn i e (lineOf w h b l))) ≤ per p (len w h l)
+  line-low l =
+      subst (λ (n : ℕ). length (entries p (clueIn i e (lineOf w h b l))) ≤ per p n) (length-line w h b l) (entries-low i p e (lineOf w h b l))
 
-  pub rows-low : length (gathered (entries p) (rowClues e w h b)) ≤ h * per p w
-  rows-low = gathered-low (entries p) (λ y. clue e (lineOf w h b (row y))) (per p w) (λ k. line-low (row k)) 0 h
+  pub rows-low : length (gathered (entries p) (rowClues (clueIn i e) w h b)) ≤ h * per p w
+  rows-low = gathered-low (entries p) (λ y. clueIn i e (lineOf w h b (row y))) (per p w) (λ k. line-low (row k)) 0 h
 
-  pub columns-low : length (gathered (entries p) (columnClues e w h b)) ≤ w * per p h
-  columns-low = gathered-low (entries p) (λ x. clue e (lineOf w h b (column x))) (per p h) (λ k. line-low (column k)) 0 w
+  pub columns-low : length (gathered (entries p) (columnClues (clueIn i e) w h b)) ≤ w * per p h
+  columns-low = gathered-low (entries p) (λ x. clueIn i e (lineOf w h b (column x))) (per p h) (λ k. line-low (column k)) 0 w
 
 -- ---- the statement
 
@@ -60,27 +62,27 @@ pub colours-refused : {rules : List Rule} {rows columns : List (List Block)} {rt
     → GridColours rules rows columns rt ct rt ct
 colours-refused q = record { row-colours = rw q; column-colours = rw q }
 
-module _ (e w h : ℕ) (b : List ℕ) {rules : List Rule} (q : verdict rules ≡ Fine) where
+module _ (i : Ink) (e w h : ℕ) (b : List ℕ) {rules : List Rule} (q : verdict rules ≡ Fine) where
   pub lists-done : {rc rs cc cs rc′ rs′ cc′ cs′ : List ℕ} {m n : ℕ} → GridRoom w h rc rs cc cs
-      → CluesPut (rowClues e w h b) (columnClues e w h b) rc rs cc cs m n rc′ rs′ cc′ cs′
-      → GridLists rules (rowClues e w h b) (columnClues e w h b) rc rs cc cs (Clues.Done m n) rc′ rs′ cc′ cs′
+      → CluesPut (rowClues (clueIn i e) w h b) (columnClues (clueIn i e) w h b) rc rs cc cs m n rc′ rs′ cc′ cs′
+      → GridLists rules (rowClues (clueIn i e) w h b) (columnClues (clueIn i e) w h b) rc rs cc cs (Clues.Done m n) rc′ rs′ cc′ cs′
   lists-done {rc} {rs} {cc} {cs} {m = m} {n = n} g p = record {
     answers = rw q (ap₂ (λ x y. 0 ∷ x ∷ y ∷ []) (put-count (p .row-sizes)) (put-count (p .column-sizes)));
-    row-counts = rw q (p .row-counts ∙ written-sets (gathered countOf (rowClues e w h b)) rc (omega (arith, rows-low Count e w h b, g .row-counts)));
-    row-sizes = rw q (put-written (p .row-sizes) (omega (arith, rows-low Size e w h b, g .row-sizes)));
+    row-counts = rw q (p .row-counts ∙ written-sets (gathered countOf (rowClues (clueIn i e) w h b)) rc (omega (arith, rows-low i Count e w h b, g .row-counts)));
+    row-sizes = rw q (put-written (p .row-sizes) (omega (arith, rows-low i Size e w h b, g .row-sizes)));
     column-counts =
         rw q
         (p .column-counts
-        ∙ written-sets (gathered countOf (columnClues e w h b)) cc (omega (arith, columns-low Count e w h b, g .column-counts)));
-    column-sizes = rw q (put-written (p .column-sizes) (omega (arith, columns-low Size e w h b, g .column-sizes)));
+        ∙ written-sets (gathered countOf (columnClues (clueIn i e) w h b)) cc (omega (arith, columns-low i Count e w h b, g .column-counts)));
+    column-sizes = rw q (put-written (p .column-sizes) (omega (arith, columns-low i Size e w h b, g .column-sizes)));
   }
 
   pub colours-done : {rt ct rt′ ct′ : List ℕ} → w * h ≤ length rt → w * h ≤ length ct
-      → ColoursPut (rowClues e w h b) (columnClues e w h b) rt ct rt′ ct′ → GridColours rules (rowClues e w h b) (columnClues e w h b) rt ct rt′ ct′
+      → ColoursPut (rowClues (clueIn i e) w h b) (columnClues (clueIn i e) w h b) rt ct rt′ ct′ → GridColours rules (rowClues (clueIn i e) w h b) (columnClues (clueIn i e) w h b) rt ct rt′ ct′
   colours-done {rt} {ct} x y p = record {
-    row-colours = rw q (p .row-colours ∙ written-sets (gathered coloursOf (rowClues e w h b)) rt (omega (arith, rows-low Colour e w h b)));
+    row-colours = rw q (p .row-colours ∙ written-sets (gathered coloursOf (rowClues (clueIn i e) w h b)) rt (omega (arith, rows-low i Colour e w h b)));
     column-colours =
-        rw q (p .column-colours ∙ written-sets (gathered coloursOf (columnClues e w h b)) ct (omega (arith, columns-low Colour e w h b)));
+        rw q (p .column-colours ∙ written-sets (gathered coloursOf (columnClues (clueIn i e) w h b)) ct (omega (arith, columns-low i Colour e w h b)));
   }
 
 -- ---- the rules
@@ -105,13 +107,13 @@ colours-room w h f a b e =
     (x .0, y .0, y .1)
 
 -- what is known where no rule is broken
-module _ (e w h : ℕ) (b rc rs cc cs : List ℕ) where
-  pub binary-known : verdict (binaryCluesRules e w h b rc rs cc cs) ≡ Fine → Grid w h b × GridRoom w h rc rs cc cs
+module _ (w h : ℕ) (b rc rs cc cs : List ℕ) where
+  pub binary-known : verdict (binaryCluesRules w h b rc rs cc cs) ≡ Fine → Grid w h b × GridRoom w h rc rs cc cs
   binary-known v =
-      let p = codes-fine (sideRules w h) (gridFits w h (length b) (length rc) (length rs) (length cc) (length cs)) (mixedCode e b) v in
+      let p = room-fine (sideRules w h) (gridFits w h (length b) (length rc) (length rs) (length cc) (length cs)) v in
       grid-known w h b rc rs cc cs (p .0) (p .1)
 
-  module _ (rt ct : List ℕ) (v : verdict (colouredCluesRules e w h b rc rs rt cc cs ct) ≡ Fine) where
+  module _ (e : ℕ) (rt ct : List ℕ) (v : verdict (colouredCluesRules e w h b rc rs rt cc cs ct) ≡ Fine) where
     abbrev fits : Bool
     fits = gridFits w h (length b) (length rc) (length rs) (length cc) (length cs)
 

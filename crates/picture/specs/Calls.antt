@@ -1,4 +1,4 @@
--- What each public call of this crate promises of a grid of w by h codes: 1, 2, 9. e is the blank code.
+-- What each public call of this crate promises of a grid of w by h codes: 1, 2, and 9 of colours. e is the blank code.
 use mathlib.Core.Path.{_≡_}
 use mathlib.Core.Bool.{Bool, _&&_}
 use mathlib.Core.List.{List, [], _∷_, _++_}
@@ -6,10 +6,10 @@ use Prim.Native.Nat.{ℕ, _*_}
 use lib.Dec.{eqb, leb}
 use lib.ListN.{length, take}
 use Rattle.rules.specs.Block.{Block, sizesOf, coloursOf}
-use Rattle.rules.specs.Clue.{badCode, mixedCode}
+use Rattle.rules.specs.Clue.{clue, badCode, blackClue}
 use Rattle.rules.specs.Card.{Card, cardOf, blackCard, rowClues, columnClues, gathered, countOf}
 use Rattle.rules.specs.Refusal.{refusalNumber, Rule, verdict, sideRules, reply, left}
-use Rattle.clue.specs.Calls.{codeRules}
+use Rattle.clue.specs.Calls.{roomRules, codeRules}
 use Rattle.picture.specs.declared.CluesAnswer.{CluesAnswer}
 use Rattle.picture.specs.declared.CluesAnswer.the-variants.{Done, Refused}
 
@@ -18,7 +18,7 @@ abbrev pub gridFits : ℕ → ℕ → ℕ → ℕ → ℕ → ℕ → ℕ → Bo
 gridFits w h codes rowCounts rowSizes columnCounts columnSizes =
     eqb codes (w * h) && (leb h rowCounts && (leb (w * h) rowSizes && (leb w columnCounts && leb (w * h) columnSizes)))
 
--- both sides are judged first
+-- the rules of coloured clues: both sides are judged first
 abbrev pub gridRules : ℕ → ℕ → Bool → Bool → List Rule
 gridRules w h fits bad = sideRules w h ++ codeRules fits bad
 
@@ -43,8 +43,8 @@ pub record GridColours (rules : List Rule) (rows columns : List (List Block)) (r
   pub column-colours : ct′ ≡ left (verdict rules) (gathered coloursOf columns) ct
 
 -- the rules of binary clues, and of coloured ones, whose lists of colours need room too
-abbrev pub binaryCluesRules : ℕ → ℕ → ℕ → List ℕ → List ℕ → List ℕ → List ℕ → List ℕ → List Rule
-binaryCluesRules e w h b rc rs cc cs = gridRules w h (gridFits w h (length b) (length rc) (length rs) (length cc) (length cs)) (mixedCode e b)
+abbrev pub binaryCluesRules : ℕ → ℕ → List ℕ → List ℕ → List ℕ → List ℕ → List ℕ → List Rule
+binaryCluesRules w h b rc rs cc cs = sideRules w h ++ roomRules (gridFits w h (length b) (length rc) (length rs) (length cc) (length cs))
 
 abbrev pub colouredCluesRules : ℕ → ℕ → ℕ → List ℕ → List ℕ → List ℕ → List ℕ → List ℕ → List ℕ → List ℕ → List Rule
 colouredCluesRules e w h b rc rs rt cc cs ct =
@@ -54,11 +54,11 @@ colouredCluesRules e w h b rc rs rt cc cs ct =
 
 -- the clues of a binary picture, and of a coloured one
 abbrev pub BinaryClues : ℕ → ℕ → ℕ → List ℕ → List ℕ → List ℕ → List ℕ → List ℕ → CluesAnswer → List ℕ → List ℕ → List ℕ → List ℕ → Type 0
-BinaryClues e w h b rc rs cc cs = GridLists (binaryCluesRules e w h b rc rs cc cs) (rowClues e w h b) (columnClues e w h b) rc rs cc cs
+BinaryClues e w h b rc rs cc cs = GridLists (binaryCluesRules w h b rc rs cc cs) (rowClues (blackClue e) w h b) (columnClues (blackClue e) w h b) rc rs cc cs
 
 pub record ColouredClues (e w h : ℕ) (b rc rs rt cc cs ct : List ℕ) (r : CluesAnswer) (rc′ rs′ rt′ cc′ cs′ ct′ : List ℕ) : Type 0 where
-  pub lists : GridLists (colouredCluesRules e w h b rc rs rt cc cs ct) (rowClues e w h b) (columnClues e w h b) rc rs cc cs r rc′ rs′ cc′ cs′
-  pub colours : GridColours (colouredCluesRules e w h b rc rs rt cc cs ct) (rowClues e w h b) (columnClues e w h b) rt ct rt′ ct′
+  pub lists : GridLists (colouredCluesRules e w h b rc rs rt cc cs ct) (rowClues (clue e) w h b) (columnClues (clue e) w h b) rc rs cc cs r rc′ rs′ cc′ cs′
+  pub colours : GridColours (colouredCluesRules e w h b rc rs rt cc cs ct) (rowClues (clue e) w h b) (columnClues (clue e) w h b) rt ct rt′ ct′
 
 -- ---- the clues of a card, as a reader of the lists takes them: as many entries of each as the answer and the sides say
 

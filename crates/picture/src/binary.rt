@@ -1,7 +1,8 @@
-// The clues of a binary picture: sizes alone. All codes but the blank one are one code.
+// The clues of a binary picture: sizes alone. Every code but the blank one is black, whatever its ink.
 use crate::CluesAnswer;
 use crate::directions::write_clues;
 use crate::judge::judge_binary_grid;
+use clue::Ink;
 use rules::Verdict;
 ghost use Rattle.picture.specs.Calls.{BinaryClues};
 
@@ -21,8 +22,7 @@ pub fn clues_from_solution(
     let v = judge_binary_grid(
         width,
         height,
-        codes,
-        blank,
+        codes.len(),
         row_counts.len(),
         row_sizes.len(),
         column_counts.len(),
@@ -36,6 +36,7 @@ pub fn clues_from_solution(
                 width,
                 height,
                 blank,
+                Ink::Black,
                 row_counts,
                 row_sizes,
                 column_counts,

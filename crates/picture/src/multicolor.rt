@@ -4,11 +4,13 @@ use crate::directions::column_clues;
 use crate::directions::row_clues;
 use crate::directions::write_clues;
 use crate::judge::judge_coloured_grid;
+use clue::Ink;
 use clue::Part;
 use rules::Verdict;
 ghost use Prim.Native.Nat.{_*_, _≤_};
 ghost use lib.ListN.{length};
 ghost use Rattle.rules.specs.Card.{rowClues, columnClues};
+ghost use Rattle.rules.specs.Clue.{clue};
 ghost use Rattle.picture.specs.Calls.{ColouredClues};
 ghost use Rattle.grid.specs.Grid.{Grid};
 ghost use Rattle.picture.specs.Steps.{ColoursPut};
@@ -23,10 +25,26 @@ fn write_colours(
     column_colours: &mut [u32],
 )
     requires { ⌜ Grid width height (now codes) × (width * height ≤ length (now «row_colours»)) × (width * height ≤ length (now «column_colours»)) ⌝ }
-    ensures { λ _. ⌜ ColoursPut (rowClues blank width height (now (codes .entry))) (columnClues blank width height (now (codes .entry))) (now («row_colours» .entry)) (now («column_colours» .entry)) (now («row_colours» .exit)) (now («column_colours» .exit)) ⌝ }
+    ensures { λ _. ⌜ ColoursPut (rowClues (clue blank) width height (now (codes .entry))) (columnClues (clue blank) width height (now (codes .entry))) (now («row_colours» .entry)) (now («column_colours» .entry)) (now («row_colours» .exit)) (now («column_colours» .exit)) ⌝ }
 {
-    row_clues(codes, width, height, blank, Part::Colour, row_colours);
-    column_clues(codes, width, height, blank, Part::Colour, column_colours);
+    row_clues(
+        codes,
+        width,
+        height,
+        blank,
+        Ink::Coloured,
+        Part::Colour,
+        row_colours,
+    );
+    column_clues(
+        codes,
+        width,
+        height,
+        blank,
+        Ink::Coloured,
+        Part::Colour,
+        column_colours,
+    );
 }
 
 // The clues of a picture of width × height codes.
@@ -64,6 +82,7 @@ pub fn clues_from_solution(
                 width,
                 height,
                 blank,
+                Ink::Coloured,
                 row_counts,
                 row_sizes,
                 column_counts,

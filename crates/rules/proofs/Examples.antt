@@ -1,4 +1,4 @@
--- The worked runs of the document and the size of the memo, computed.
+-- The worked runs of document 01, the codes of request #102 and the size of the memo, computed.
 use mathlib.Core.Path.{_≡_, refl}
 use mathlib.Core.List.{List, [], _∷_}
 use mathlib.Core.Option.{Option}
@@ -8,6 +8,7 @@ use lib.ListN.{getD}
 use Rattle.rules.specs.Block.{Block, black}
 use Rattle.rules.specs.Placement.{placements}
 use Rattle.rules.specs.Answer.{answer}
+use Rattle.rules.specs.Clue.{blackClue}
 use Rattle.rules.specs.Refusal.{memoSize}
 use Rattle.rules.specs.declared.LinePosition.{LinePosition}
 use Rattle.rules.specs.declared.LinePosition.the-variants.{Row, Column}
@@ -33,6 +34,10 @@ run-1 = refl
 run-2 : fullRun 2 1 (solveWith []) (3 ∷ 3 ∷ []) ≡ refused (row 0) (2 ∷ 3 ∷ []) (0 ∷ []) 1
 unfolding fullRun fullStack run solveWith exampleClue lineOf store ones
 run-2 = refl
+
+-- request #102: with blank 1, codes 2,3 give one block of 2
+two-inks : blackClue 1 (2 ∷ 3 ∷ []) ≡ black 2 ∷ []
+two-inks = refl
 
 -- a row of 64 bytes for each number of blocks, from none to 64
 memo-size : memoSize ≡ 65 * 64

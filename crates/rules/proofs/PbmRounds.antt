@@ -14,9 +14,9 @@ use lib.Seq.{length-take-le}
 use Rattle.rules.specs.Colour.{Colour}
 use Rattle.rules.specs.Answer.{Proper}
 use Rattle.rules.specs.Ranges.{anyOf}
-use Rattle.rules.specs.Clue.{badCode, mixedCode}
-use Rattle.rules.specs.Refusal.{verdict}
-use Rattle.rules.specs.Pbm.{no-filler, a-space, Numeral, a-digit, longer, HeadingAt, Raster, no-cell, between, a-white, a-black, Drawn, TextOf, GoodSides, heading, readRules, sidesRead, codesRead, lineText, decimal, digitOf, rowsText, headingText, pbmText, isOther}
+use Rattle.rules.specs.Clue.{badCode}
+use Rattle.rules.specs.Refusal.{GoodSides, verdict}
+use Rattle.rules.specs.Pbm.{no-filler, a-space, Numeral, a-digit, longer, HeadingAt, Raster, no-cell, between, a-white, a-black, Drawn, TextOf, heading, readRules, sidesRead, codesRead, lineText, decimal, digitOf, rowsText, headingText, pbmText, isOther}
 use Rattle.rules.specs.declared.Refusal.the-variants.{BadLength, BadRoom, BadText}
 use Rattle.rules.specs.declared.Verdict.{Verdict}
 use Rattle.rules.specs.declared.Verdict.the-variants.{Fine, Bad}
@@ -53,19 +53,9 @@ codes-proper (c ∷ l) e = let p = cond-false (isOther c) (anyOf isOther l) e in
     go (inl u) = (0, u)
     go (inr u) = (1, u)
 
--- such codes break rule 9 of neither kind of clue, with blank 1
+-- such codes break no rule 9 of coloured clues, with blank 1
 pub codes-coloured : (l : List ℕ) → anyOf isOther l ≡ false → badCode 1 l ≡ false
 codes-coloured l e = proper-codes l (codes-proper l e)
-
-pub codes-binary : (l : List ℕ) → anyOf isOther l ≡ false → mixedCode 1 l ≡ false
-codes-binary [] e = refl
-codes-binary (c ∷ l) e =
-    let p = cond-false (isOther c) (anyOf isOther l) e in
-    go (code-cases c (p .0)) (p .1) (codes-binary l (p .1))
-  where
-    go : (c ≡ 1) ⊎ (c ≡ 2) → anyOf isOther l ≡ false → mixedCode 1 l ≡ false → mixedCode 1 (c ∷ l) ≡ false
-    go (inl u) q up = rw u up
-    go (inr u) q up = rw u q
 
 -- ---- what is written is a text of the picture
 

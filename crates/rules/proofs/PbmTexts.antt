@@ -10,8 +10,8 @@ use borrow.Author.Tests.{eq-eqb, ne-eqb, le-leb, lt-leb, lt-ltb, le-ltb, eqb-tru
 use lib.Dec.{eqb, ltb, leb}
 use lib.ListN.{length}
 use Rattle.rules.specs.Ranges.{anyOf}
-use Rattle.rules.specs.Refusal.{verdict, sideRules}
-use Rattle.rules.specs.Pbm.{isSpace, isDigit, isLineEnd, isPixel, Filler, no-filler, a-space, a-comment, Spaced, Numeral, a-digit, longer, NoDigit, SizeAt, HeadingAt, Raster, no-cell, between, a-white, a-black, Drawn, TextOf, GoodSides, Stage, no-heading, bad-sides, no-room, not-drawn, a-picture, isPlain, pastFiller, Sized, digits, numeralAt, sizeAt, Heading, headingWith, headingFrom, heading, pixels, isStray, beginsSpaced, isDrawn, rasterRules, readRules, sidesRead, codesRead}
+use Rattle.rules.specs.Refusal.{GoodSides, verdict, sideRules}
+use Rattle.rules.specs.Pbm.{isSpace, isDigit, isLineEnd, isPixel, Filler, no-filler, a-space, a-comment, Spaced, Numeral, a-digit, longer, NoDigit, SizeAt, HeadingAt, Raster, no-cell, between, a-white, a-black, Drawn, TextOf, Stage, no-heading, bad-sides, no-room, not-drawn, a-picture, isPlain, pastFiller, Sized, digits, numeralAt, sizeAt, Heading, headingWith, headingFrom, heading, pixels, isStray, beginsSpaced, isDrawn, rasterRules, readRules, sidesRead, codesRead}
 use Rattle.rules.specs.declared.Refusal.the-variants.{BadLength, BadRoom, BadText}
 use Rattle.rules.specs.declared.Verdict.{Verdict}
 use Rattle.rules.specs.declared.Verdict.the-variants.{Fine, Bad}

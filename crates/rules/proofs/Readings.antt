@@ -1,24 +1,28 @@
--- A picture's codes read as colours: the clue stays, so that every line whose codes are allowed is a placement of its own clue.
+-- A picture's codes read as colours: the clue stays, so that every line whose codes are allowed is a placement of its own clue; and read as
+-- black and white, where every line is one.
 use Prim.Native.Nat.{ℕ, zero, suc, _<_, _*_}
 use borrow.Author.Tests.{eq-eqb, ne-eqb}
 use lib.Dec.{eqb}
 use lib.ListN.{length, getD, replicate, length-map}
 use mathlib.Core.Bool.{Bool, true, false, cond}
-use mathlib.Core.List.{List, [], _∷_, _++_, map}
+use mathlib.Core.List.{List, [], _∷_, _++_, map, map-append}
 use mathlib.Core.Logic.{inl, inr, _≢_}
+use mathlib.Core.Option.{Option, none, some}
 use mathlib.Core.Path.{_≡_, refl, sym, ap, _∙_, ap₂, subst}
 use native.Mathlib.Nat.{not-suc-le-zero, le-of-suc-le-suc}
 use native.Mathlib.Omega.{arith}
 use Rattle.rules.proofs.Blocks.{legal-colour}
 use Rattle.rules.proofs.Boards.{place-lt}
-use Rattle.rules.proofs.Clues.{clue-runs, runs-clue, own-placement}
-use Rattle.rules.proofs.Codes.{later, different-mixed}
-use Rattle.rules.proofs.Tests.{Compared, eqb-cases, true-not-false, cond-false}
+use Rattle.rules.proofs.Clues.{clue-runs, runs-clue, clue-run, own-placement}
+use Rattle.rules.proofs.Codes.{proper-codes}
+use Rattle.rules.proofs.Tests.{Compared, eqb-cases, cond-false}
+use Rattle.rules.specs.Answer.{Proper}
 use Rattle.rules.specs.Block.{Block, _of_, black, sizesOf, Legal, illegalColour, legal-none, legal-block}
 use Rattle.rules.specs.Board.{len, On, place, tabulate, lineOf}
-use Rattle.rules.specs.Clue.{Apart, RunsOf, clue, badCode, Different, mixedCode, readCode, readBinary, no-code, a-blank, a-run}
+use Rattle.rules.specs.Clue.{Apart, RunsOf, runs, clue, badCode, readCode, readBinary, blackWhite, blackClue, Stops, Beside, InksApart, no-code, a-blank, a-run}
 use Rattle.rules.specs.Colour.{Colour}
 use Rattle.rules.specs.Placement.{Placement}
+use Rattle.rules.specs.Ranges.{anyOf}
 use Rattle.rules.specs.declared.LinePosition.{LinePosition}
 
 -- ---- lists
@@ -115,49 +119,9 @@ module _ (e : ℕ) where
   pub codes-legal : (l : List ℕ) → badCode e l ≡ false → Legal (clue e l)
   codes-legal l g = legal-runs (clue-runs e l) g
 
--- ---- binary codes
-
-later-many : {e : ℕ} (n c : ℕ) {l : List ℕ} → Different e l → Different e (replicate n c ++ l)
-later-many zero c d = d
-later-many (suc n) c d = later (later-many n c d)
+-- ---- binary codes: the line as black and white
 
 module _ (e : ℕ) where
-  -- a run of c before another code that is not blank: two different codes
-  two : (n c d : ℕ) (l : List ℕ) → c ≢ e → d ≢ e → c ≢ d → Different e (replicate (suc n) c ++ (d ∷ l))
-  two zero c d l p q r = record { i = 0; j = 1; i-in = omega arith; j-in = omega arith; i-shown = p; j-shown = q; apart = r }
-  two (suc n) c d l p q r = later (two n c d l p q r)
-
-  black-apart : (n c : ℕ) (l : List ℕ) → 0 < n → c ≢ e → Apart c l → (Different e (replicate n c ++ l) → ⊥) → Apart 2 (map (readBinary e) l)
-  black-apart zero c l h p a f = absurd (omega arith)
-  black-apart (suc n) c [] h p a f = tt
-  black-apart (suc n) c (d ∷ l) h p a f = go (eqb-cases d e)
-    where
-      go : Compared d e → readBinary e d ≢ 2
-      go (inl q) = rw (q .1) (λ u. omega arith)
-      go (inr q) = absurd (f (two n c d l p (q .0) (λ u. a (sym u))))
-
-  black-runs : {l : List ℕ} {bs : List Block} → RunsOf e l bs → (Different e l → ⊥) → RunsOf 1 (map (readBinary e) l) (map black (sizesOf bs))
-  black-runs no-code f = no-code
-  black-runs (a-blank {l = l} {bs = bs} r) f =
-      subst (λ (x : ℕ). RunsOf 1 (x ∷ map (readBinary e) l) (map black (sizesOf bs))) (sym (ap (λ t. cond t 1 2) (eq-eqb e e refl)))
-      (a-blank (black-runs r (λ d. f (later d))))
-  black-runs (a-run {l = l} {bs = bs} n c h d a r) f =
-      subst (λ (m : List ℕ). RunsOf 1 m (black n ∷ map black (sizesOf bs)))
-      (sym (map-replicate (readBinary e) n c l ∙ ap (λ t. replicate n (cond t 1 2) ++ map (readBinary e) l) (ne-eqb c e d)))
-      (a-run n 2 h (λ u. omega arith) (black-apart n c l h d a f) (black-runs r (λ x. f (later-many n c x))))
-
-  none-different : (l : List ℕ) → mixedCode e l ≡ false → Different e l → ⊥
-  none-different l m d = true-not-false (sym (different-mixed e l d) ∙ m)
-
-  pub black-clue : (l : List ℕ) → mixedCode e l ≡ false → clue 1 (map (readBinary e) l) ≡ map black (sizesOf (clue e l))
-  black-clue l m = runs-clue (black-runs (clue-runs e l) (none-different l m))
-
-  pub black-placement : (l : List ℕ) → mixedCode e l ≡ false → Placement (map black (sizesOf (clue e l))) (length l) (map (readBinary e) l)
-  black-placement l m =
-      subst (λ (bs : List Block). Placement bs (length l) (map (readBinary e) l)) (black-clue l m)
-      (subst (λ (n : ℕ). Placement (clue 1 (map (readBinary e) l)) n (map (readBinary e) l)) (length-map l (readBinary e))
-      (own-placement (map (readBinary e) l)))
-
   pub black-colour : (c : ℕ) → Colour (readBinary e c)
   black-colour c = go (eqb c e)
     where
@@ -165,10 +129,85 @@ module _ (e : ℕ) where
       go true = (0, refl)
       go false = (1, refl)
 
-  legal-blacks : {l : List ℕ} {bs : List Block} → RunsOf e l bs → Legal (map black (sizesOf bs))
-  legal-blacks no-code = legal-none
-  legal-blacks (a-blank r) = legal-blacks r
-  legal-blacks (a-run n c h d a r) = legal-block {b = black n} h (1, refl) (λ u. omega arith) (legal-blacks r)
+  black-proper : (l : List ℕ) → Proper (blackWhite e l)
+  black-proper [] = tt
+  black-proper (c ∷ l) = (black-colour c, black-proper l)
 
-  pub black-legal : (l : List ℕ) → Legal (map black (sizesOf (clue e l)))
-  black-legal l = legal-blacks (clue-runs e l)
+  -- the runs of any line are legal blocks
+  pub black-legal : (l : List ℕ) → Legal (blackClue e l)
+  black-legal l = codes-legal 1 (blackWhite e l) (proper-codes (blackWhite e l) (black-proper l))
+
+  -- and any line is a placement of them
+  pub black-placement : (l : List ℕ) → Placement (blackClue e l) (length l) (blackWhite e l)
+  black-placement l =
+      subst (λ (n : ℕ). Placement (blackClue e l) n (blackWhite e l)) (length-map l (readBinary e)) (own-placement (blackWhite e l))
+
+  -- the run that is open, if it is a black one of n codes
+  abbrev openBlack : Option ℕ → Option Block
+  openBlack none = none
+  openBlack (some n) = some (black n)
+
+  black-runs : (l : List ℕ) (o : Option ℕ) → map black (sizesOf (runs 1 (openBlack o) (blackWhite e l))) ≡ runs 1 (openBlack o) (blackWhite e l)
+  black-runs [] none = refl
+  black-runs [] (some n) = refl
+  black-runs (c ∷ l) o = go o (eqb c e) (λ o′. black-runs l o′)
+    where
+      go : (o : Option ℕ) (t : Bool)
+          → ((o′ : Option ℕ) → map black (sizesOf (runs 1 (openBlack o′) (blackWhite e l))) ≡ runs 1 (openBlack o′) (blackWhite e l))
+          → map black (sizesOf (runs 1 (openBlack o) (cond t 1 2 ∷ blackWhite e l))) ≡ runs 1 (openBlack o) (cond t 1 2 ∷ blackWhite e l)
+      go none true up = up none
+      go (some n) true up = ap (λ bs. black n ∷ bs) (up none)
+      go none false up = up (some 1)
+      go (some n) false up = up (some (suc n))
+
+  -- each of them is black
+  pub black-only : (l : List ℕ) → map black (sizesOf (blackClue e l)) ≡ blackClue e l
+  black-only l = black-runs l none
+
+  -- a blank code adds nothing to the clue
+  pub blank-passed : (l : List ℕ) → blackClue e (e ∷ l) ≡ blackClue e l
+  blank-passed l = rw (eq-eqb e e refl)
+
+  -- a stretch of codes that are not blank, whatever they are, is one black block as long, where a blank code or the line's end follows
+  stretch-black : (s : List ℕ) → anyOf (λ c. eqb c e) s ≡ false → blackWhite e s ≡ replicate (length s) 2
+  stretch-black [] g = refl
+  stretch-black (c ∷ s) g = let p = cond-false (eqb c e) (anyOf (λ d. eqb d e) s) g in rw (p .0) (ap (λ (l : List ℕ). 2 ∷ l) (stretch-black s (p .1)))
+
+  stop-apart : (l : List ℕ) → Stops e l → Apart 2 (blackWhite e l)
+  stop-apart [] p = tt
+  stop-apart (d ∷ l) p = rw (eq-eqb d e p) (λ u. omega arith)
+
+  pub stretch-counted : (s l : List ℕ) → 0 < length s → anyOf (λ c. eqb c e) s ≡ false → Stops e l
+      → blackClue e (s ++ l) ≡ black (length s) ∷ blackClue e l
+  stretch-counted s l h g p =
+      ap (clue 1) (map-append (readBinary e) s l ∙ ap (λ (k : List ℕ). k ++ blackWhite e l) (stretch-black s g))
+      ∙ clue-run 1 (length s) 2 (blackWhite e l) h (λ u. omega arith) (stop-apart l p)
+
+-- ---- where no two different inks touch, the binary clue has the sizes of the coloured runs
+
+module _ (e : ℕ) where
+  -- with no run open, or with a run of n codes c
+  record SameSizes (l : List ℕ) : Type 0 where
+    shut : sizesOf (runs e none l) ≡ sizesOf (runs 1 none (blackWhite e l))
+    opened : (n c : ℕ) → c ≢ e → Beside e c l → sizesOf (runs e (some (n of c)) l) ≡ sizesOf (runs 1 (some (black n)) (blackWhite e l))
+
+  same-sizes : (l : List ℕ) → InksApart e l → SameSizes l
+  same-sizes [] a = record { shut = refl; opened = λ n c p q. refl }
+  same-sizes (d ∷ l) a =
+      let r = same-sizes l (a .1) in
+      record { shut = shut r (eqb-cases d e); opened = λ n c p q. opened r n c p q (eqb-cases d e) (eqb-cases d c) }
+    where
+      shut : SameSizes l → Compared d e → sizesOf (runs e none (d ∷ l)) ≡ sizesOf (runs 1 none (blackWhite e (d ∷ l)))
+      shut r (inl p) = rw (p .1) (r .shut)
+      shut r (inr p) = rw (p .1) (r .opened 1 d (p .0) (a .0))
+
+      opened : SameSizes l → (n c : ℕ) → c ≢ e → Beside e c (d ∷ l) → Compared d e → Compared d c
+          → sizesOf (runs e (some (n of c)) (d ∷ l)) ≡ sizesOf (runs 1 (some (black n)) (blackWhite e (d ∷ l)))
+      opened r n c f q (inl p) k = rw (p .1) (ap (λ t. n ∷ t) (r .shut))
+      opened r n c f q (inr p) (inl k) = rw (p .1, k .1) (r .opened (suc n) d (p .0) (a .0))
+      opened r n c f (inl u) (inr p) (inr k) = absurd (f u)
+      opened r n c f (inr (inl u)) (inr p) (inr k) = absurd (p .0 u)
+      opened r n c f (inr (inr u)) (inr p) (inr k) = absurd (k .0 u)
+
+  pub inks-apart : (l : List ℕ) → InksApart e l → sizesOf (blackClue e l) ≡ sizesOf (clue e l)
+  inks-apart l a = sym (same-sizes l a .shut)

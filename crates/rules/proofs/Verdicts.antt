@@ -10,7 +10,7 @@ use lib.Dec.{eqb, ltb, leb}
 use lib.ListN.{length, getD, length-map}
 use Rattle.rules.specs.Block.{Lent, black, blocks, coloured, binary, illegal}
 use Rattle.rules.specs.Ranges.{anyOf}
-use Rattle.rules.specs.Refusal.{refusalNumber, Rule, _when_, verdict, ascending, Lowest, lengthRules, sideRules, countRules, blockRules, cellRules}
+use Rattle.rules.specs.Refusal.{refusalNumber, Rule, _when_, verdict, ascending, Lowest, lengthRules, GoodSides, sideRules, countRules, blockRules, cellRules}
 use Rattle.rules.specs.declared.Refusal.{Refusal}
 use Rattle.rules.specs.declared.Refusal.the-variants.{BadLength, BadRoom, TooManyBlocks, BadBlock, BadCell}
 use Rattle.rules.specs.declared.Verdict.{Verdict}
@@ -120,14 +120,14 @@ length-fine n e =
     let z = eqb-false n 0 (a .0) in
     (omega (arith, z), ltb-false 64 n (fine-cons (BadLength when ltb 64 n) [] (a .1) .0))
 
-pub sides-fine : (w h : ℕ) → verdict (sideRules w h) ≡ Fine → (0 < w) × (w ≤ 64) × (0 < h) × (h ≤ 64)
+pub sides-fine : (w h : ℕ) → verdict (sideRules w h) ≡ Fine → GoodSides w h
 sides-fine w h q =
     let a = append-parts (lengthRules w) (lengthRules h) q in
     let x = length-fine w (a .0) in
     let y = length-fine h (a .1) in
     (x .0, x .1, y .0, y .1)
 
-pub sides-good : (w h : ℕ) → (0 < w) × (w ≤ 64) × (0 < h) × (h ≤ 64) → verdict (sideRules w h) ≡ Fine
+pub sides-good : (w h : ℕ) → GoodSides w h → verdict (sideRules w h) ≡ Fine
 sides-good w h g = rw (ne-eqb w 0 (λ e. omega (arith, g .0)), le-ltb 64 w (g .1), ne-eqb h 0 (λ e. omega (arith, g .2)), le-ltb 64 h (g .3))
 
 -- both sides are allowed, or the refusal is 1

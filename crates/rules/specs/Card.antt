@@ -6,7 +6,6 @@ use lib.ListN.{length, getD, take, drop}
 use Rattle.rules.specs.Block.{Block, blacks, blocks}
 use Rattle.rules.specs.Placement.{Placement, placements}
 use Rattle.rules.specs.Answer.{answer}
-use Rattle.rules.specs.Clue.{clue}
 use Rattle.rules.specs.Board.{row, column, len, lineOf}
 use Rattle.rules.specs.declared.LinePosition.{LinePosition}
 use Rattle.rules.specs.declared.LinePosition.the-variants.{Row, Column}
@@ -49,18 +48,18 @@ module _ (w h : ℕ) (clues : LinePosition → List Block) where
   abbrev pub solveStraight : LinePosition → List ℕ → Option (List ℕ)
   solveStraight l c = answer (placements (clues l) (len w h l)) c
 
--- ---- the clues of a picture b of w by h codes, with the blank code e
+-- ---- the clues of a picture b of w by h codes, where f is the clue of a line
 
 -- f k, f (k + 1), .. : n of them
 abbrev pub linesFrom : (ℕ → List Block) → ℕ → ℕ → List (List Block)
 linesFrom f k zero = []
 linesFrom f k (suc n) = f k ∷ linesFrom f (suc k) n
 
-abbrev pub rowClues : ℕ → ℕ → ℕ → List ℕ → List (List Block)
-rowClues e w h b = linesFrom (λ y. clue e (lineOf w h b (row y))) 0 h
+abbrev pub rowClues : (List ℕ → List Block) → ℕ → ℕ → List ℕ → List (List Block)
+rowClues f w h b = linesFrom (λ y. f (lineOf w h b (row y))) 0 h
 
-abbrev pub columnClues : ℕ → ℕ → ℕ → List ℕ → List (List Block)
-columnClues e w h b = linesFrom (λ x. clue e (lineOf w h b (column x))) 0 w
+abbrev pub columnClues : (List ℕ → List Block) → ℕ → ℕ → List ℕ → List (List Block)
+columnClues f w h b = linesFrom (λ x. f (lineOf w h b (column x))) 0 w
 
 -- one list of lines' clues, line after line: f is what a line gives to it, its count, its sizes or its colours
 abbrev pub gathered : (List Block → List ℕ) → List (List Block) → List ℕ

@@ -1,12 +1,12 @@
 -- Clues of a line of picture codes, and which codes are allowed. e is the blank code, which may be any number.
 use mathlib.Core.Path.{_≡_}
-use mathlib.Core.Logic.{_≢_}
-use mathlib.Core.Bool.{Bool, true, false, cond, not}
-use mathlib.Core.List.{List, [], _∷_, _++_}
+use mathlib.Core.Logic.{_⊎_, _≢_}
+use mathlib.Core.Bool.{Bool, true, false, cond}
+use mathlib.Core.List.{List, [], _∷_, _++_, map}
 use mathlib.Core.Option.{Option, none, some}
 use Prim.Native.Nat.{ℕ, suc, _<_}
 use lib.Dec.{eqb}
-use lib.ListN.{length, getD, replicate}
+use lib.ListN.{replicate}
 use Rattle.rules.specs.Block.{Block, _of_, illegalColour}
 use Rattle.rules.specs.Ranges.{anyOf}
 
@@ -58,33 +58,37 @@ clue e l = runs e none l
 abbrev pub badCode : ℕ → List ℕ → Bool
 badCode e l = anyOf (λ c. cond (eqb c e) false (illegalColour c)) l
 
--- binary: two different codes that are not blank occur
-pub record Different (e : ℕ) (l : List ℕ) : Type 0 where
-  pub i : ℕ
-  pub j : ℕ
-  pub i-in : i < length l
-  pub j-in : j < length l
-  pub i-shown : getD l i 0 ≢ e
-  pub j-shown : getD l j 0 ≢ e
-  pub apart : getD l i 0 ≢ getD l j 0
-
--- the same as a test: the first code that is not blank, and one after it that is neither blank nor that code
-abbrev pub otherCode : ℕ → ℕ → List ℕ → Bool
-otherCode e c l = anyOf (λ d. cond (eqb d e) false (not (eqb d c))) l
-
-abbrev pub mixedCode : ℕ → List ℕ → Bool
-mixedCode e [] = false
-mixedCode e (c ∷ l) = cond (eqb c e) (mixedCode e l) (otherCode e c l)
-
 -- ---- a picture's codes as colours
 
 -- the blank code is blank; any other code is its own colour
 abbrev pub readCode : ℕ → ℕ → ℕ
 readCode e c = cond (eqb c e) 1 c
 
--- binary: any other code is black
+-- binary: any other code is black, whatever its ink
 abbrev pub readBinary : ℕ → ℕ → ℕ
 readBinary e c = cond (eqb c e) 1 2
+
+-- a line, or a picture, read as black and white
+abbrev pub blackWhite : ℕ → List ℕ → List ℕ
+blackWhite e l = map (readBinary e) l
+
+-- the binary clue of a line: its runs once it is read so, which are its maximal stretches of codes that are not blank
+abbrev pub blackClue : ℕ → List ℕ → List Block
+blackClue e l = clue 1 (blackWhite e l)
+
+-- the line ends here, or goes on with the blank code
+abbrev pub Stops : ℕ → List ℕ → Type 0
+Stops e [] = Unit {0}
+Stops e (d ∷ l) = d ≡ e
+
+-- no two different inks touch: beside each code stands a blank one, or the same
+abbrev pub Beside : ℕ → ℕ → List ℕ → Type 0
+Beside e c [] = Unit {0}
+Beside e c (d ∷ l) = (c ≡ e) ⊎ ((d ≡ e) ⊎ (d ≡ c))
+
+abbrev pub InksApart : ℕ → List ℕ → Type 0
+InksApart e [] = Unit {0}
+InksApart e (c ∷ l) = Beside e c l × InksApart e l
 
 -- ---- Description::new: the blocks but for those equal to the default, in order
 

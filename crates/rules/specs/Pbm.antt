@@ -8,7 +8,7 @@ use Prim.Native.Nat.{ℕ, zero, suc, _+_, _*_, _-_, _/_, _%_, _≤_, _<_}
 use lib.Dec.{eqb, ltb, leb}
 use lib.ListN.{length, take, drop}
 use Rattle.rules.specs.Ranges.{anyOf}
-use Rattle.rules.specs.Refusal.{Rule, _when_, sideRules}
+use Rattle.rules.specs.Refusal.{Rule, _when_, GoodSides, sideRules}
 use Rattle.rules.specs.declared.Refusal.the-variants.{BadLength, BadRoom, BadCode, BadText}
 use Rattle.rules.specs.declared.Verdict.{Verdict}
 use Rattle.rules.specs.declared.Verdict.the-variants.{Fine, Bad}
@@ -89,9 +89,6 @@ pub record TextOf (w h : ℕ) (codes text : List ℕ) : Type 0 where
   pub rest : List ℕ
   pub heading : HeadingAt w h text rest
   pub drawn : Drawn (w * h) codes rest
-
-abbrev pub GoodSides : ℕ → ℕ → Type 0
-GoodSides w h = (0 < w) × (w ≤ 64) × (0 < h) × (h ≤ 64)
 
 -- how a text is judged where there is room for so many codes, stage by stage: 11 for a break before both sizes are read; then 1, then 2 for
 -- the room; then 11 for any other break

@@ -2,7 +2,7 @@
 use mathlib.Core.Path.{_≡_}
 use mathlib.Core.Bool.{Bool, true, false, cond, not, _&&_}
 use mathlib.Core.List.{List, [], _∷_, _++_, List·Memᴰ}
-use Prim.Native.Nat.{ℕ, _<_}
+use Prim.Native.Nat.{ℕ, _<_, _≤_}
 use lib.Dec.{eqb, ltb, leb}
 use lib.ListN.{length, drop}
 use Rattle.rules.specs.Block.{Block, Lent, illegal, sizesOf, coloursOf}
@@ -69,7 +69,10 @@ pub record Lowest (rs : List Rule) (w : Refusal) : Type 0 where
 abbrev pub lengthRules : ℕ → List Rule
 lengthRules n = BadLength when eqb n 0 ∷ BadLength when ltb 64 n ∷ []
 
--- both sides of a grid
+-- both sides of a grid are 1 to 64; and the rules that say so
+abbrev pub GoodSides : ℕ → ℕ → Type 0
+GoodSides w h = (0 < w) × (w ≤ 64) × (0 < h) × (h ≤ 64)
+
 abbrev pub sideRules : ℕ → ℕ → List Rule
 sideRules w h = lengthRules w ++ lengthRules h
 

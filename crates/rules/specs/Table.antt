@@ -5,7 +5,7 @@ use mathlib.Core.Option.{Option, none, some}
 use Prim.Native.Nat.{ℕ}
 use Rattle.rules.specs.Block.{Block, _of_, sizesOf}
 use Rattle.rules.specs.Binary.{lineAnswer, binaryAnswer}
-use Rattle.rules.specs.Clue.{clue, badCode, mixedCode}
+use Rattle.rules.specs.Clue.{clue, badCode, blackClue}
 
 -- what may be asked: a line's answer, by its blocks and cells, or a line's clue with blank 1
 pub data Question : Type 0 where
@@ -27,7 +27,7 @@ flat (b ∷ bs) = b .size ∷ b .colour ∷ flat bs
 abbrev pub answerTo : Question → List ℕ
 answerTo (binaryLine sizes l) = solved (binaryAnswer sizes l)
 answerTo (colouredLine bs l) = solved (lineAnswer bs l)
-answerTo (binaryClue l) = cond (mixedCode 1 l) (9 ∷ []) (0 ∷ sizesOf (clue 1 l))
+answerTo (binaryClue l) = 0 ∷ sizesOf (blackClue 1 l)
 answerTo (colouredClue l) = cond (badCode 1 l) (9 ∷ []) (0 ∷ flat (clue 1 l))
 
 pub record Case : Type 0 where
@@ -54,5 +54,5 @@ table =
     ∷ colouredLine (1 of 2 ∷ []) (6 ∷ 7 ∷ []) gives (0 ∷ 2 ∷ 1 ∷ [])
     ∷ binaryClue (2 ∷ 2 ∷ 1 ∷ 2 ∷ []) gives (0 ∷ 2 ∷ 1 ∷ [])
     ∷ colouredClue (2 ∷ 4 ∷ []) gives (0 ∷ 1 ∷ 2 ∷ 1 ∷ 4 ∷ [])
-    ∷ binaryClue (2 ∷ 4 ∷ []) gives (9 ∷ [])
+    ∷ binaryClue (2 ∷ 4 ∷ []) gives (0 ∷ 2 ∷ [])
     ∷ []

@@ -9,7 +9,7 @@ use lib.Seq.{drop-cons, take-at}
 use Rattle.rules.specs.Block.{Block, sizesOf}
 use Rattle.rules.specs.Board.{row, column, lineOf}
 use Rattle.rules.specs.Card.{sum, gathered, countOf, rowClues, columnClues}
-use Rattle.rules.specs.Clue.{clue}
+use Rattle.rules.specs.Clue.{blackClue}
 use Rattle.rules.specs.Refusal.{verdict, written}
 use Rattle.rules.specs.declared.Verdict.the-variants.{Fine}
 use Rattle.rules.proofs.Gatherings.{counts-sum, lines-counted}
@@ -42,16 +42,17 @@ direction L n rc rs e =
 -- both directions, from the statement of a call that was done
 module _ (e w h : ℕ) (b rc rs cc cs : List ℕ) {m n : ℕ} {rc′ rs′ cc′ cs′ : List ℕ}
     (c : BinaryClues e w h b rc rs cc cs (Done m n) rc′ rs′ cc′ cs′) where
-  fine : verdict (binaryCluesRules e w h b rc rs cc cs) ≡ Fine
+  fine : verdict (binaryCluesRules w h b rc rs cc cs) ≡ Fine
   fine =
-      done-fine (verdict (binaryCluesRules e w h b rc rs cc cs)) (length (gathered sizesOf (rowClues e w h b)))
-      (length (gathered sizesOf (columnClues e w h b))) m n (c .answers) .0
+      done-fine (verdict (binaryCluesRules w h b rc rs cc cs)) (length (gathered sizesOf (rowClues (blackClue e) w h b)))
+      (length (gathered sizesOf (columnClues (blackClue e) w h b))) m n (c .answers) .0
 
   pub rows-lined : Lined h rc′ rs′
   rows-lined =
-      rw (c .row-counts, c .row-sizes, fine) (direction (rowClues e w h b) h rc rs (lines-counted (λ y. clue e (lineOf w h b (row y))) h))
+      rw (c .row-counts, c .row-sizes, fine)
+      (direction (rowClues (blackClue e) w h b) h rc rs (lines-counted (λ y. blackClue e (lineOf w h b (row y))) h))
 
   pub columns-lined : Lined w cc′ cs′
   columns-lined =
       rw (c .column-counts, c .column-sizes, fine)
-      (direction (columnClues e w h b) w cc cs (lines-counted (λ x. clue e (lineOf w h b (column x))) w))
+      (direction (columnClues (blackClue e) w h b) w cc cs (lines-counted (λ x. blackClue e (lineOf w h b (column x))) w))

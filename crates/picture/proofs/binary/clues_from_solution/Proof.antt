@@ -1,6 +1,7 @@
 -- `binary::clues_from_solution` meets its contract: the rules, and then a pass for each list.
 use mathlib.Core.Path.{sym, _∙_}
 use Rattle.picture.proofs.Told.{lists-refused, lists-done, binary-known}
+use Rattle.clue.specs.declared.Ink.the-variants.{Black}
 use borrow.Author.Needs.{needs}
 use Rattle.picture.proofs.binary.clues_from_solution.Statement.{statement}
 use Rattle.picture.proofs.binary.clues_from_solution.Tie as tie
@@ -19,7 +20,7 @@ write-clues-requires c κs =
     let args = c .before .before .before .before .before .before .before .before .before .before .before .before .args in
     let judge-binary-grid = c .before .before .before .before .before .before .judge-binary-grid in
     let enum-told = c .before .before .before .before .enum-told in
-    binary-known (args .blank) (args .width) (args .height) (args .codes .now) (args .row-counts .now) (args .row-sizes .now)
+    binary-known (args .width) (args .height) (args .codes .now) (args .row-counts .now) (args .row-sizes .now)
     (args .column-counts .now) (args .column-sizes .now) (sym (judge-binary-grid .ensures) ∙ enum-told .given .1)
 
 returns : tie.Need-returns
@@ -50,8 +51,8 @@ returns-2 c =
     .before .before .before .before .before .args in
     let write-clues = c .before .before .before .before .before .before .before .before .write-clues in
     let e = sym (judge-binary-grid .ensures) ∙ enum-told .given .1 in
-    lists-done (args .blank) (args .width) (args .height) (args .codes .now) e
-    (binary-known (args .blank) (args .width) (args .height) (args .codes .now) (args .row-counts .now) (args .row-sizes .now)
+    lists-done Black (args .blank) (args .width) (args .height) (args .codes .now) e
+    (binary-known (args .width) (args .height) (args .codes .now) (args .row-counts .now) (args .row-sizes .now)
     (args .column-counts .now) (args .column-sizes .now) e .1)
     (write-clues .ensures)
 

@@ -6,34 +6,33 @@ use mathlib.Core.List.{List}
 use mathlib.Core.Path.{_≡_, refl, sym, ap, _∙_, subst}
 use Rattle.grid.proofs.Rows.{column-copied}
 use Rattle.picture.proofs.Gathered.{lines-step, lines-end, lines-start, room-left, room-next}
-use Rattle.clue.proofs.Leads.{entries-length}
-use Rattle.clue.specs.Steps.{entries, per}
+use Rattle.clue.proofs.Leads.{entries-low}
+use Rattle.clue.specs.Steps.{entries, per, clueIn}
 use Rattle.loops.proofs.Going.{Going, going-puts, going-done}
 use Rattle.loops.specs.Put.{Put}
 use Rattle.rules.proofs.Boards.{length-line}
 use Rattle.rules.specs.Board.{column, lineOf}
 use Rattle.rules.specs.Card.{linesFrom, gathered}
-use Rattle.rules.specs.Clue.{clue}
 use native.Mathlib.Omega.{arith}
 use Rattle.picture.proofs.directions.copied_clues.Statement.{statement}
 use Rattle.picture.proofs.directions.copied_clues.Tie as tie
 
 abbrev Inv-loop : tie.InvT-loop
-Inv-loop codes width height blank part line₀ out₀ at₀ x₀ line out at x =
+Inv-loop codes width height blank ink part line₀ out₀ at₀ x₀ line out at x =
     (x ≤ width) × (at ≤ x * per part height) × Going out₀ 0
-    (gathered (entries part) (linesFrom (λ k. clue blank (lineOf width height codes (column k))) 0 width)) out at
-    (gathered (entries part) (linesFrom (λ k. clue blank (lineOf width height codes (column k))) x (width - x))) ×
+    (gathered (entries part) (linesFrom (λ k. clueIn ink blank (lineOf width height codes (column k))) 0 width)) out at
+    (gathered (entries part) (linesFrom (λ k. clueIn ink blank (lineOf width height codes (column k))) x (width - x))) ×
     (length line ≡ length line₀)
 
 abbrev μ-loop : tie.MeasureT-loop
-μ-loop codes width height blank part line₀ out₀ at₀ x₀ line out at x = width - x
+μ-loop codes width height blank ink part line₀ out₀ at₀ x₀ line out at x = width - x
 
 loop-holds : tie.Need-loop-holds Inv-loop μ-loop
 loop-holds c =
     let args = c .before .before .before .args in (
       omega arith,
       omega arith,
-      lines-start (entries (args .part)) (λ k. clue (args .blank) (lineOf (args .width) (args .height) (args .codes .now) (column k)))
+      lines-start (entries (args .part)) (λ k. clueIn (args .ink) (args .blank) (lineOf (args .width) (args .height) (args .codes .now) (column k)))
           (args .width) _,
       refl,
     )
@@ -71,15 +70,15 @@ copy-column-requires c κs =
     let pre = c .before .before .before .before .before .before .pre in
     let loop = c .before .before .loop in (pre .0, c .before .loop-test .taken, omega (arith, pre .2, loop .inv .3))
 
-slice-reshare-prefix-write-line : tie.Need-slice-reshare-prefix-write-line Inv-loop μ-loop
-slice-reshare-prefix-write-line c =
+slice-reshare-prefix-write-clue : tie.Need-slice-reshare-prefix-write-clue Inv-loop μ-loop
+slice-reshare-prefix-write-clue c =
     let pre = c .before .before .before .before .before .before .before .before .before .pre in rw (long (c .before .before)) (pre .2)
 
-slice-aggregate-write-line : tie.Need-slice-aggregate-write-line Inv-loop μ-loop
-slice-aggregate-write-line c = sym (high (c .before .before .before))
+slice-aggregate-write-clue : tie.Need-slice-aggregate-write-clue Inv-loop μ-loop
+slice-aggregate-write-clue c = sym (high (c .before .before .before))
 
-write-line-requires : tie.Need-write-line-requires Inv-loop μ-loop
-write-line-requires c κs =
+write-clue-requires : tie.Need-write-clue-requires Inv-loop μ-loop
+write-clue-requires c κs =
     let pre = c .before .before .before .before .before .before .before .before .before .before .before .pre in
     let loop = c .before .before .before .before .before .before .before .loop in
     let args = c .before .before .before .before .before .before .before .before .before .before .before .args in
@@ -100,22 +99,22 @@ loop-again : tie.Need-loop-again Inv-loop μ-loop
 loop-again c =
     let args = c .before .before .before .before .before .before .before .before .before .before .before .before .before .before .args in
     let loop = c .before .before .before .before .before .before .before .before .before .before .loop in
-    let write-line = c .before .before .write-line in
+    let write-clue = c .before .before .write-clue in
     let loop-test = c .before .before .before .before .before .before .before .before .before .loop-test in let a = args in
     let r = c .before .before .before .before .before .before .before in
     let l = lineOf (a .width) (a .height) (a .codes .now) (column (loop .x)) in
     let p =
     subst
-    (λ (x : List ℕ). Put (loop .out) (loop .at) (entries (a .part) (clue (a .blank) x)) (write-line .result)
-    (write-line .last .1 .1 .1 .0))
-    (copied r) (write-line .ensures) in (
+    (λ (x : List ℕ). Put (loop .out) (loop .at) (entries (a .part) (clueIn (a .ink) (a .blank) x)) (write-clue .result)
+    (write-clue .last .1 .1 .1 .1 .0))
+    (copied r) (write-clue .ensures) in (
       omega arith,
-      room-next (loop .at) (write-line .result) (loop .x) (per (a .part) (a .height)) (length (entries (a .part) (clue (a .blank) l)))
+      room-next (loop .at) (write-clue .result) (loop .x) (per (a .part) (a .height)) (length (entries (a .part) (clueIn (a .ink) (a .blank) l)))
           (loop .inv .1) (p .end)
-          (subst (λ (n : ℕ). length (entries (a .part) (clue (a .blank) l)) ≤ per (a .part) n)
-          (length-line (a .width) (a .height) (a .codes .now) (column (loop .x))) (entries-length (a .part) (a .blank) l)),
+          (subst (λ (n : ℕ). length (entries (a .part) (clueIn (a .ink) (a .blank) l)) ≤ per (a .part) n)
+          (length-line (a .width) (a .height) (a .codes .now) (column (loop .x))) (entries-low (a .ink) (a .part) (a .blank) l)),
       going-puts (loop .inv .2)
-          (lines-step (entries (a .part)) (λ k. clue (a .blank) (lineOf (a .width) (a .height) (a .codes .now) (column k))) (loop .x) (a .width)
+          (lines-step (entries (a .part)) (λ k. clueIn (a .ink) (a .blank) (lineOf (a .width) (a .height) (a .codes .now) (column k))) (loop .x) (a .width)
           (loop-test .taken))
           p,
       long r,
@@ -132,7 +131,7 @@ returns c =
     let loop = c .before .loop in
     let args = c .before .before .before .before .before .args in
     going-done (loop .inv .2)
-    (lines-end (entries (args .part)) (λ k. clue (args .blank) (lineOf (args .width) (args .height) (args .codes .now) (column k))) (loop .x)
+    (lines-end (entries (args .part)) (λ k. clueIn (args .ink) (args .blank) (lineOf (args .width) (args .height) (args .codes .now) (column k))) (loop .x)
     (args .width) (c .loop-test .left))
 
 pub copied-clues-spec : {M : Type 1} → statement M
@@ -143,9 +142,9 @@ copied-clues-spec =
     μ-loop
     loop-holds
     copy-column-requires
-    slice-reshare-prefix-write-line
-    slice-aggregate-write-line
-    write-line-requires
+    slice-reshare-prefix-write-clue
+    slice-aggregate-write-clue
+    write-clue-requires
     add-x
     loop-less
     loop-again

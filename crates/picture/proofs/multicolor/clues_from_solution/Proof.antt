@@ -1,6 +1,7 @@
 -- `multicolor::clues_from_solution` meets its contract: the rules, and then a pass for each list.
 use mathlib.Core.Path.{sym, _∙_}
 use Rattle.picture.proofs.Told.{lists-refused, colours-refused, lists-done, colours-done, coloured-known, colours-known}
+use Rattle.clue.specs.declared.Ink.the-variants.{Coloured}
 use borrow.Author.Needs.{needs}
 use Rattle.picture.proofs.multicolor.clues_from_solution.Statement.{statement}
 use Rattle.picture.proofs.multicolor.clues_from_solution.Tie as tie
@@ -19,8 +20,8 @@ write-clues-requires c κs =
     let args = c .before .before .before .before .before .before .before .before .before .before .before .before .before .before .args in
     let judge-coloured-grid = c .before .before .before .before .before .before .judge-coloured-grid in
     let enum-told = c .before .before .before .before .enum-told in
-    coloured-known (args .blank) (args .width) (args .height) (args .codes .now) (args .row-counts .now) (args .row-sizes .now)
-    (args .column-counts .now) (args .column-sizes .now) (args .row-colours .now) (args .column-colours .now)
+    coloured-known (args .width) (args .height) (args .codes .now) (args .row-counts .now) (args .row-sizes .now)
+    (args .column-counts .now) (args .column-sizes .now) (args .blank) (args .row-colours .now) (args .column-colours .now)
     (sym (judge-coloured-grid .ensures) ∙ enum-told .given .1)
 
 write-colours-requires : tie.Need-write-colours-requires
@@ -35,10 +36,10 @@ write-colours-requires c κs =
     .before .before .before .before .before .before .before .before .before .args in
     let e = sym (judge-coloured-grid .ensures) ∙ enum-told .given .1 in
     let r =
-    colours-known (args .blank) (args .width) (args .height) (args .codes .now) (args .row-counts .now) (args .row-sizes .now)
-    (args .column-counts .now) (args .column-sizes .now) (args .row-colours .now) (args .column-colours .now) e in (
-      coloured-known (args .blank) (args .width) (args .height) (args .codes .now) (args .row-counts .now) (args .row-sizes .now)
-          (args .column-counts .now) (args .column-sizes .now) (args .row-colours .now) (args .column-colours .now) e .0,
+    colours-known (args .width) (args .height) (args .codes .now) (args .row-counts .now) (args .row-sizes .now)
+    (args .column-counts .now) (args .column-sizes .now) (args .blank) (args .row-colours .now) (args .column-colours .now) e in (
+      coloured-known (args .width) (args .height) (args .codes .now) (args .row-counts .now) (args .row-sizes .now)
+          (args .column-counts .now) (args .column-sizes .now) (args .blank) (args .row-colours .now) (args .column-colours .now) e .0,
       r .0,
       r .1,
     )
@@ -84,14 +85,14 @@ returns-2 c =
     let write-colours = c .before .before .before .before .write-colours in
     let e = sym (judge-coloured-grid .ensures) ∙ enum-told .given .1 in
     let r =
-    colours-known (args .blank) (args .width) (args .height) (args .codes .now) (args .row-counts .now) (args .row-sizes .now)
-    (args .column-counts .now) (args .column-sizes .now) (args .row-colours .now) (args .column-colours .now) e in
+    colours-known (args .width) (args .height) (args .codes .now) (args .row-counts .now) (args .row-sizes .now)
+    (args .column-counts .now) (args .column-sizes .now) (args .blank) (args .row-colours .now) (args .column-colours .now) e in
     record {
-      lists = lists-done (args .blank) (args .width) (args .height) (args .codes .now) e
-          (coloured-known (args .blank) (args .width) (args .height) (args .codes .now) (args .row-counts .now) (args .row-sizes .now)
-          (args .column-counts .now) (args .column-sizes .now) (args .row-colours .now) (args .column-colours .now) e .1)
+      lists = lists-done Coloured (args .blank) (args .width) (args .height) (args .codes .now) e
+          (coloured-known (args .width) (args .height) (args .codes .now) (args .row-counts .now) (args .row-sizes .now)
+          (args .column-counts .now) (args .column-sizes .now) (args .blank) (args .row-colours .now) (args .column-colours .now) e .1)
           (write-clues .ensures);
-      colours = colours-done (args .blank) (args .width) (args .height) (args .codes .now) e (r .0) (r .1) (write-colours .ensures);
+      colours = colours-done Coloured (args .blank) (args .width) (args .height) (args .codes .now) e (r .0) (r .1) (write-colours .ensures);
     }
 
 pub clues-from-solution-spec : {M : Type 1} → statement M
