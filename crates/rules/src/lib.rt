@@ -1,4 +1,6 @@
 // What every layer shares: positions of lines, refusals, and the answer of a call that writes lists.
+#![tactic(auto)]
+
 ghost use Rattle.std.specs.Prelude.{◌≡◌};
 ghost use Rattle.rules.specs.Refusal.{refusal_number_of};
 
