@@ -6,7 +6,7 @@ mod line;
 pub mod multicolor;
 
 // What is written of each line's clue: its count, its sizes or its colours.
-#[derive(Drop)]
+#[derive(Clone, Copy)]
 pub enum Part {
     Count,
     Size,
@@ -14,7 +14,7 @@ pub enum Part {
 }
 
 // How a picture's codes are taken: each as a colour of its own, or all but the blank one as black.
-#[derive(Drop)]
+#[derive(Clone, Copy)]
 pub enum Ink {
     Coloured,
     Black,

@@ -10,7 +10,7 @@ ghost use Rattle.line.specs.Calls.{line_answer_number};
 use rules::{Refusal, refusal_number};
 
 // The answer of a call that solves a line: 0, 8, or a refusal by checking.
-#[derive(Drop)]
+#[derive(Clone, Copy)]
 pub enum LineAnswer {
     Done,
     Unsolvable,

@@ -8,14 +8,14 @@ use crate::bytes::{is_commented, is_digit, is_plain, is_space};
 use crate::numbers::read_digits;
 
 // A size, where one stands, held to at most 65, and the index after it.
-#[derive(Drop)]
+#[derive(Clone, Copy)]
 pub(crate) enum Size {
     Broken,
     Read { value: usize, end: usize },
 }
 
 // Both sizes, where they stand, and the index after them.
-#[derive(Drop)]
+#[derive(Clone, Copy)]
 pub(crate) enum Sides {
     Broken,
     Read {

@@ -10,7 +10,7 @@ mod rows;
 pub mod write;
 
 // The answer of reading: the sides of the picture.
-#[derive(Drop)]
+#[derive(Clone, Copy)]
 pub enum PbmAnswer {
     Done { width: usize, height: usize },
     Refused(Refusal),

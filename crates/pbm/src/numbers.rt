@@ -7,7 +7,7 @@ ghost use Rattle.pbm.specs.Steps.{held, DigitsRead};
 use crate::bytes::is_digit;
 
 // A longest run of digits: its value, held to at most 65, and the index after it.
-#[derive(Drop)]
+#[derive(Clone, Copy)]
 pub(crate) struct Digits {
     pub(crate) value: usize,
     pub(crate) end: usize,

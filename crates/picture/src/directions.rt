@@ -12,7 +12,7 @@ use grid::lines::{copy_column, row};
 use rules::{ColumnIndex, RowIndex};
 
 // How many blocks the rows have, and the columns.
-#[derive(Drop)]
+#[derive(Clone, Copy)]
 pub(crate) struct Totals {
     pub(crate) rows: usize,
     pub(crate) columns: usize,

@@ -7,7 +7,7 @@ pub mod multicolor;
 use rules::Refusal;
 
 // The answer of a call for the clues of a grid: how many blocks are written for the rows, and for the columns.
-#[derive(Drop)]
+#[derive(Clone, Copy)]
 pub enum CluesAnswer {
     Done { rows: usize, columns: usize },
     Refused(Refusal),

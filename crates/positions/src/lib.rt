@@ -8,14 +8,14 @@ mod ranges;
 use rules::Refusal;
 
 // The answer of a call for a number.
-#[derive(Drop)]
+#[derive(Clone, Copy)]
 pub enum NumberAnswer {
     Number(u64),
     Refused(Refusal),
 }
 
 // What the rules say of a line's length and blocks: the cells that the leftmost packing leaves, or the first rule that is broken.
-#[derive(Drop)]
+#[derive(Clone, Copy)]
 enum Space {
     Slack(u64),
     Tight(Refusal),

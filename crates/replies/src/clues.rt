@@ -7,7 +7,7 @@ use rules::refusal_number;
 
 // Document 01's number, and how many blocks are written for the rows and for the columns: with a refusal 0 and 0.
 #[repr(C)]
-#[derive(Drop)]
+#[derive(Clone, Copy)]
 pub struct CluesReply {
     pub number: u32,
     pub rows: usize,

@@ -6,7 +6,7 @@ use rules::{ListAnswer, refusal_number};
 
 // Document 01's number, and how many entries of each list are written: with a refusal 0.
 #[repr(C)]
-#[derive(Drop)]
+#[derive(Clone, Copy)]
 pub struct CountReply {
     pub number: u32,
     pub count: usize,

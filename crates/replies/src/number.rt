@@ -7,7 +7,7 @@ use rules::refusal_number;
 
 // Document 01's number, and in how many places the blocks lie: with a refusal 0.
 #[repr(C)]
-#[derive(Drop)]
+#[derive(Clone, Copy)]
 pub struct PositionsReply {
     pub number: u32,
     pub positions: u64,

@@ -7,7 +7,7 @@ use rules::refusal_number;
 
 // The documents' number, and the sides of the picture: with a refusal 0 and 0.
 #[repr(C)]
-#[derive(Drop)]
+#[derive(Clone, Copy)]
 pub struct PbmReply {
     pub number: u32,
     pub width: usize,

@@ -10,7 +10,7 @@ use run::RunAnswer;
 // What a run answers: document 01's number; the line that refused, its kind 0 for a row, 1 for a column and 2 for none, whose index is 0;
 // the entries written to the report; the lines solved. A refusal by checking has no line and no counts.
 #[repr(C)]
-#[derive(Drop)]
+#[derive(Clone, Copy)]
 pub struct RunReply {
     pub number: u32,
     pub line_kind: u32,

@@ -7,22 +7,22 @@ ghost use Rattle.rules.specs.Refusal.{refusal_number_of};
 pub mod judge;
 
 // A row's number. It is never mixed with a column's.
-#[derive(Drop)]
+#[derive(Clone, Copy)]
 pub struct RowIndex(pub usize);
 
 // A column's number.
-#[derive(Drop)]
+#[derive(Clone, Copy)]
 pub struct ColumnIndex(pub usize);
 
 // A line of the grid: a row or a column, with its index.
-#[derive(Drop)]
+#[derive(Clone, Copy)]
 pub enum LinePosition {
     Row(RowIndex),
     Column(ColumnIndex),
 }
 
 // Why a call refuses its input. 8 is no such refusal: it is found by solving.
-#[derive(Drop)]
+#[derive(Clone, Copy)]
 pub enum Refusal {
     BadLength,
     BadRoom,
@@ -37,14 +37,14 @@ pub enum Refusal {
 }
 
 // What the rules say of an input: nothing, or the first that is broken.
-#[derive(Drop)]
+#[derive(Clone, Copy)]
 pub enum Verdict {
     Fine,
     Bad(Refusal),
 }
 
 // The answer of a call that writes one list, or lists of one length: how many entries of each are written.
-#[derive(Drop)]
+#[derive(Clone, Copy)]
 pub enum ListAnswer {
     Done { entries: usize },
     Refused(Refusal),

@@ -7,7 +7,7 @@ ghost use Rattle.run.specs.Ends.{run_answer_number};
 use rules::{ColumnIndex, LinePosition, Refusal, RowIndex, refusal_number};
 
 // Where a run begins: with all lines, or with the two lines through a point.
-#[derive(Drop)]
+#[derive(Clone, Copy)]
 pub enum Start {
     Full,
     Point(ColumnIndex, RowIndex),
@@ -15,7 +15,7 @@ pub enum Start {
 
 // The answer of a run: 0, 8 with the line that was refused, or a refusal by checking. `entries` are those written to the report,
 // `lines` those solved.
-#[derive(Drop)]
+#[derive(Clone, Copy)]
 pub enum RunAnswer {
     Done {
         entries: usize,

@@ -14,7 +14,7 @@ use rules::LinePosition;
 use stack::push::push_changed;
 
 // What became of a line: whether it was solved, and then how many lines are on the stack and entries in the report.
-#[derive(Drop)]
+#[derive(Clone, Copy)]
 pub struct Step {
     pub solved: bool,
     pub stacked: usize,
@@ -22,7 +22,7 @@ pub struct Step {
 }
 
 // Whether a line was solved, and then how many lines are on the stack.
-#[derive(Drop)]
+#[derive(Clone, Copy)]
 struct Attempt {
     solved: bool,
     stacked: usize,
