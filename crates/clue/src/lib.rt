@@ -1,4 +1,6 @@
 // The clue of a line: `from_line` of base.rs. Each public call judges its input first, and a refusal changes nothing.
+#![tactic(auto)]
+
 pub mod binary;
 pub mod inks;
 pub mod judge;

@@ -1,4 +1,6 @@
 // Plain PBM: a picture read from a text, and written as one. Each public call judges its input first, and a refusal changes nothing.
+#![tactic(auto)]
+
 use rules::Refusal;
 
 mod bytes;

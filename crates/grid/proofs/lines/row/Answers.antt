@@ -1,0 +1,8 @@
+-- `lines::row` meets its contract.
+use Rattle.rules.proofs.Lists.{part_count}
+use Prim.Native.Nat.{◌-◌}
+use borrow.Author.Rules.{rules}
+use Rattle.grid.proofs.lines.row.Goals as goal
+
+pub returns : goal.returns
+returns c = simp part_count
