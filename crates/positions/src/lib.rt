@@ -1,5 +1,7 @@
 // How many positions a line's blocks have, and the ranges of their colours: `positions_number` and `color_ranges` of base.rs.
 // Each public call judges its input first, and a refusal changes nothing.
+#![tactic(auto)]
+
 pub mod binary;
 mod judge;
 pub mod multicolor;
