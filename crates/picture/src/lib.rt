@@ -1,4 +1,6 @@
 // The clues of a picture: `clues_from_solution` of base.rs. Each public call judges its input first, and a refusal changes nothing.
+#![tactic(auto)]
+
 pub mod binary;
 mod directions;
 mod judge;
