@@ -1,5 +1,7 @@
 // The dynamic solver: whether the first blocks fit into the first cells, and what they can give each cell, from right to left.
 // The line is held in one array, so that few arguments go through the cycle: see `held` in specs/Filling.antt.
+#![tactic(auto)]
+
 ghost use Rattle.std.specs.Prelude.{◌≡◌, cond, ℕ, ◌+◌, ◌*◌, ◌-◌, ◌^◌, ◌≤◌, ◌<◌, eqb, pos, length};
 ghost use Rattle.std.proofs.Math.IntN.{sub_ℕ};
 ghost use Rattle.rules.specs.Colour.{can_take};

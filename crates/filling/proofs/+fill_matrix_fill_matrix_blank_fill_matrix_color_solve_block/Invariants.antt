@@ -1,0 +1,18 @@
+use Rattle.std.proofs.Common.{◌≡◌, cond, ℕ, ◌+◌, ◌*◌, ◌-◌, ◌^◌, ◌≤◌, ◌<◌, eqb, pos, length, ℤ, ◌+ℤ◌, ◌-ℤ◌, ◌*ℤ◌, ◌≤ℤ◌, ◌<ℤ◌, FitsSigned, to_z, of_z}
+use Rattle.std.proofs.Math.IntN.{sub_ℕ}
+use Rattle.rules.specs.Colour.{can_take}
+use Rattle.filling.specs.Filling.{held, trails, Fits}
+use Rattle.filling.specs.Steps.{Decides, cells_to, CanShow, Lies, Added, shade, stop_of, Ask, Tell, EndsBlank, EndsBlock}
+use Rattle.filling.proofs.+fill_matrix_fill_matrix_blank_fill_matrix_color_solve_block.Given as goal
+
+abbrev pub decreases-fill_matrix : goal.decreases-fill_matrix
+decreases-fill_matrix l = 3 * (l.position + 1) + 1
+
+abbrev pub decreases-fill_matrix_blank : goal.decreases-fill_matrix_blank
+decreases-fill_matrix_blank l = 3 * (l.position + 1)
+
+abbrev pub decreases-fill_matrix_color : goal.decreases-fill_matrix_color
+decreases-fill_matrix_color l = 3 * (l.position + 1)
+
+abbrev pub decreases-solve_block : goal.decreases-solve_block
+decreases-solve_block l = 3 * cells_to l.position + 2
