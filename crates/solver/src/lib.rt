@@ -1,4 +1,6 @@
 // Holds a line in the array that the solver reads, and solves it: the parts of DynamicSolver::new and try_solve.
+#![tactic(auto)]
+
 ghost use Rattle.std.specs.Prelude.{◌≡◌, ◌+◌, ◌≤◌, length};
 ghost use Rattle.std.proofs.lemmas.List.Edits.{sets};
 ghost use Rattle.rules.specs.Block.{blocks};

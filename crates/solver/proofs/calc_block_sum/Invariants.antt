@@ -1,0 +1,16 @@
+-- `calc_block_sum` meets its contract: the sums of the blocks passed are written.
+use Prim.Native.Nat.{◌+◌, ◌-◌, ◌≤◌, ◌<◌}
+use mathlib.Core.Path.{◌≡◌, ◌∙◌, ap}
+use mathlib.Core.Bool.{true≢false, false≢true, cond}
+use native.Mathlib.Omega.{arith}
+use lib.ListN.{length}
+use Rattle.filling.specs.Filling.{held}
+use Rattle.solver.proofs.Stored.{Summing, summing_start, summing_more, size_same, end_space, space_mono}
+use borrow.Author.Rules.{rules}
+use Rattle.solver.proofs.calc_block_sum.Given as goal
+
+abbrev pub invariant-loop-b : goal.invariant-loop-b
+invariant-loop-b l = (l.b ≤ l.count) × Summing l.initial.line l.line l.start l.b
+
+abbrev pub decreases-loop-b : goal.decreases-loop-b
+decreases-loop-b l = l.count - l.b
