@@ -1,5 +1,7 @@
 // One nonogram line: the dynamic solver of nonogrid's line.rs over colour sets, and its binary face.
 // Each public call judges its input first; a refusal by checking changes nothing.
+#![tactic(auto)]
+
 pub mod binary;
 mod judge;
 pub mod multicolor;

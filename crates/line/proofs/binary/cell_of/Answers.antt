@@ -3,8 +3,7 @@ use mathlib.Core.Path.{◌≡◌, refl}
 use Prim.Native.Nat.{ℕ, zero, suc, ◌≤◌, ◌<◌}
 use native.Mathlib.Omega.{arith}
 use Rattle.rules.specs.Binary.{cell_of}
-use Rattle.line.proofs.binary.cell_of.Statement.{statement}
-use Rattle.line.proofs.binary.cell_of.Tie as tie
+use Rattle.line.proofs.binary.cell_of.Goals as goal
 
 unknown : (s : ℕ) → 2 < s → 0 ≡ cell_of s
 unknown zero h = absurd (omega arith)
@@ -18,11 +17,8 @@ known (suc zero) h = refl
 known (suc (suc zero)) h = refl
 known (suc (suc (suc s))) h = absurd (omega arith)
 
-returns : tie.Need-returns
-returns c = unknown _ c.if1.true
+pub returns-then-set-gt2 : goal.returns-then-set-gt2
+returns-then-set-gt2 c = unknown _ c.if-set-gt2.true
 
-returns-2 : tie.Need-returns-2
-returns-2 c = known _ c.if1.false
-
-pub cell-of-spec : {M : Type 1} → statement M
-cell-of-spec = tie.close (tie.spec returns returns-2)
+pub returns-else-set-gt2 : goal.returns-else-set-gt2
+returns-else-set-gt2 c = known _ c.if-set-gt2.false
