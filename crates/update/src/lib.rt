@@ -1,4 +1,6 @@
 // One line of a run: solved as the grid has it, its changes pushed, stored and reported.
+#![tactic(auto)]
+
 ghost use Rattle.std.specs.Prelude.{length};
 ghost use Rattle.rules.specs.Block.{blocks, coloured};
 ghost use Rattle.rules.specs.Board.{line_of};
