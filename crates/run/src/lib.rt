@@ -1,4 +1,6 @@
 // The loop of a run: where it begins, what it answers, and line after line until nothing changes (nonogrid's propagation.rs).
+#![tactic(auto)]
+
 pub mod jobs;
 
 ghost use Rattle.std.specs.Prelude.{◌≡◌};
