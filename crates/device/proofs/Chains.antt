@@ -36,11 +36,11 @@ clues_done {Says} {x} a z = go a.answer a.says a.tells
     go (Done m n) s e = rw e s
     go (Refused w) s e = absurd ((by_checking w).0 (sym (ap (λ k. k.number) e) ∙ z))
 
-module _ {w h : ℕ} {c : Card} {m : List ℕ} (q : Picture (Placed w h c) w h m) {b₀ : List ℕ} (u : Within m b₀) where
-  -- a start that holds a picture has its size
-  start_size : length b₀ ≡ w * h
-  start_size = omega (arith, q.size, u.long)
+-- a start that holds a picture has its size
+start_size : {w h : ℕ} (c : Card) {m : List ℕ} → Picture (Placed w h c) w h m → {b₀ : List ℕ} → Within m b₀ → length b₀ ≡ w * h
+start_size c q u = omega (arith, q.size, u.long)
 
+module _ {w h : ℕ} {c : Card} {m : List ℕ} (q : Picture (Placed w h c) w h m) {b₀ : List ℕ} (u : Within m b₀) where
   -- a run that passed the checks is done, and keeps the picture
   run_keeps : {r₀ : List ℕ} {t : Reply} {b r : List ℕ} {y : RunReply} → Answered w h Full c b₀ r₀ t b r → Passed t → y ≡ tell_run t
       → (y.number ≡ 0) × Within m b
@@ -62,7 +62,7 @@ module _ {e w h : ℕ} {codes rc rs rt cc cs ct rc' rs' rt' cc' cs' ct' : List �
   clues_then_run {grid} {report} {memo} {stack} b u r m s =
       let c = clues_done a z in
       let q = picture_of_clues c in
-      let k = clues_lent c (length grid) (length memo) (length stack) (start_size q u) m s in
+      let k = clues_lent c (length grid) (length memo) (length stack) (start_size _ q u) m s in
       let v = run_fine w h Full lent grid (length report) (length memo) (length stack) k ∙ report_fine w h (length report) (room grid) r in
       run_keeps q u (coloured b.says) (fine_passed b.says v) b.tells
 
@@ -83,7 +83,7 @@ module _ (e w h : ℕ) (codes : List ℕ) {rc rs cc cs rc' rs' cc' cs' : List �
   binary_clues_then_run {grid} {report} {memo} {stack} b low u r m s =
       let c = clues_done a z in
       let q = picture_of_binary_clues e w h x.rows x.columns codes c in
-      let size = sym (length-map grid set_by) ∙ start_size q u in
+      let size = sym (length-map grid set_by) ∙ start_size _ q u in
       let k = binary_clues_lent e w h x.rows x.columns codes c (length grid) (length memo) (length stack) size m s in
       let v =
       binary_fine w h Full black_lent grid (length report) (length memo) (length stack) k (none_above 2 grid (λ i o. low i))

@@ -9,24 +9,21 @@ use replies::count::{CountReply, tell_count};
 use replies::number::{PositionsReply, tell_positions};
 
 // The ends of the blocks in the leftmost packing.
-#[unsafe(no_mangle)]
-pub extern "C" fn sp_partial_sums(sizes: &[u32], colours: &[u32], sums: &mut [u64]) -> CountReply
+pub fn sp_partial_sums(sizes: &[u32], colours: &[u32], sums: &mut [u64]) -> CountReply
     ensures { Told tell_count_of (λ a. PartialSums (coloured sizes.now colours.now) sums.old a sums.new) result }
 {
     tell_count(block::multicolor::partial_sums(sizes, colours, sums))
 }
 
 // Their first cells in it.
-#[unsafe(no_mangle)]
-pub extern "C" fn sp_block_starts(sizes: &[u32], colours: &[u32], starts: &mut [u64]) -> CountReply
+pub fn sp_block_starts(sizes: &[u32], colours: &[u32], starts: &mut [u64]) -> CountReply
     ensures { Told tell_count_of (λ a. BlockStarts (coloured sizes.now colours.now) starts.old a starts.new) result }
 {
     tell_count(block::multicolor::block_starts(sizes, colours, starts))
 }
 
 // In how many places the leftmost packing, moved as a whole, lies in the line.
-#[unsafe(no_mangle)]
-pub extern "C" fn sp_positions_number(
+pub fn sp_positions_number(
     length: usize,
     sizes: &[u32],
     colours: &[u32],
@@ -37,8 +34,7 @@ pub extern "C" fn sp_positions_number(
 }
 
 // Where the cells of each colour can lie: the colour, the first cell, and the cell after the last.
-#[unsafe(no_mangle)]
-pub extern "C" fn sp_color_ranges(
+pub fn sp_color_ranges(
     length: usize,
     sizes: &[u32],
     colours: &[u32],
@@ -59,8 +55,7 @@ pub extern "C" fn sp_color_ranges(
 }
 
 // `Description::new`: the blocks but for those of size 0 and colour 0, in order.
-#[unsafe(no_mangle)]
-pub extern "C" fn sp_description(
+pub fn sp_description(
     sizes: &[u32],
     colours: &[u32],
     out_sizes: &mut [u32],
@@ -72,32 +67,28 @@ pub extern "C" fn sp_description(
 }
 
 // The ends of binary blocks in the leftmost packing.
-#[unsafe(no_mangle)]
-pub extern "C" fn sp_binary_partial_sums(sizes: &[u32], sums: &mut [u64]) -> CountReply
+pub fn sp_binary_partial_sums(sizes: &[u32], sums: &mut [u64]) -> CountReply
     ensures { Told tell_count_of (λ a. PartialSums (binary sizes.now) sums.old a sums.new) result }
 {
     tell_count(block::binary::partial_sums(sizes, sums))
 }
 
 // Their first cells in it.
-#[unsafe(no_mangle)]
-pub extern "C" fn sp_binary_block_starts(sizes: &[u32], starts: &mut [u64]) -> CountReply
+pub fn sp_binary_block_starts(sizes: &[u32], starts: &mut [u64]) -> CountReply
     ensures { Told tell_count_of (λ a. BlockStarts (binary sizes.now) starts.old a starts.new) result }
 {
     tell_count(block::binary::block_starts(sizes, starts))
 }
 
 // In how many places it lies in the line.
-#[unsafe(no_mangle)]
-pub extern "C" fn sp_binary_positions_number(length: usize, sizes: &[u32]) -> PositionsReply
+pub fn sp_binary_positions_number(length: usize, sizes: &[u32]) -> PositionsReply
     ensures { Told tell_positions_of (PositionsNumber length (binary sizes.now)) result }
 {
     tell_positions(positions::binary::positions_number(length, sizes))
 }
 
 // `Description::new`: the blocks but for those of size 0, in order.
-#[unsafe(no_mangle)]
-pub extern "C" fn sp_binary_description(sizes: &[u32], out_sizes: &mut [u32]) -> CountReply
+pub fn sp_binary_description(sizes: &[u32], out_sizes: &mut [u32]) -> CountReply
     ensures { Told tell_count_of (λ a. BinaryDescription (binary sizes.now) out_sizes.old a out_sizes.new) result }
 {
     tell_count(description::binary::description_new(sizes, out_sizes))

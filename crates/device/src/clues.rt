@@ -7,8 +7,7 @@ use replies::clues::{CluesReply, tell_clues};
 use replies::count::{CountReply, tell_count};
 
 // The clue of a line of codes: its maximal runs of equal codes that are not blank.
-#[unsafe(no_mangle)]
-pub extern "C" fn sp_clue(
+pub fn sp_clue(
     codes: &[u32],
     blank: u32,
     sizes: &mut [u32],
@@ -20,16 +19,14 @@ pub extern "C" fn sp_clue(
 }
 
 // The clue of a binary line: the sizes of its maximal stretches of codes that are not blank.
-#[unsafe(no_mangle)]
-pub extern "C" fn sp_binary_clue(codes: &[u32], blank: u32, sizes: &mut [u32]) -> CountReply
+pub fn sp_binary_clue(codes: &[u32], blank: u32, sizes: &mut [u32]) -> CountReply
     ensures { Told tell_count_of (λ a. BinaryClue blank codes.now sizes.old a sizes.new) result }
 {
     tell_count(clue::binary::from_line(codes, blank, sizes))
 }
 
 // The clues of a picture of width × height codes.
-#[unsafe(no_mangle)]
-pub extern "C" fn sp_clues(
+pub fn sp_clues(
     width: usize,
     height: usize,
     codes: &[u32],
@@ -58,8 +55,7 @@ pub extern "C" fn sp_clues(
 }
 
 // The clues of a binary picture: sizes alone.
-#[unsafe(no_mangle)]
-pub extern "C" fn sp_binary_clues(
+pub fn sp_binary_clues(
     width: usize,
     height: usize,
     codes: &[u32],

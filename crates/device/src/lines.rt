@@ -4,8 +4,7 @@ ghost use Rattle.line.specs.Calls.{SolvesLine, SolvesBinaryLine};
 
 use line::{answer_number, binary, multicolor};
 
-#[unsafe(no_mangle)]
-pub extern "C" fn sp_solve_line(
+pub fn sp_solve_line(
     cells: &[u32],
     sizes: &[u32],
     colours: &[u32],
@@ -17,8 +16,7 @@ pub extern "C" fn sp_solve_line(
     answer_number(multicolor::solve(cells, sizes, colours, memo, out))
 }
 
-#[unsafe(no_mangle)]
-pub extern "C" fn sp_solve_binary_line(
+pub fn sp_solve_binary_line(
     cells: &[u32],
     sizes: &[u32],
     memo: &mut [u8],

@@ -6,16 +6,14 @@ use replies::count::{CountReply, tell_count};
 use replies::pictures::{PbmReply, tell_pbm};
 
 // The picture whose text this is: its sides, and its codes, 1 for white and 2 for black.
-#[unsafe(no_mangle)]
-pub extern "C" fn sp_read_pbm(text: &[u8], codes: &mut [u32]) -> PbmReply
+pub fn sp_read_pbm(text: &[u8], codes: &mut [u32]) -> PbmReply
     ensures { Told tell_pbm_of (λ a. ReadsPbm text.now codes.old a codes.new) result }
 {
     tell_pbm(pbm::read::read_pbm(text, codes))
 }
 
 // The text of a picture of width × height codes, each 1 or 2.
-#[unsafe(no_mangle)]
-pub extern "C" fn sp_write_pbm(
+pub fn sp_write_pbm(
     width: usize,
     height: usize,
     codes: &[u32],

@@ -9,8 +9,7 @@ use replies::runs::{RunReply, reply_of};
 use rules::{ColumnIndex, RowIndex};
 
 // A full run on a grid of colour sets, with a coloured card.
-#[unsafe(no_mangle)]
-pub extern "C" fn sp_run<'a, 'b>(
+pub fn sp_run<'a, 'b>(
     width: usize,
     height: usize,
     grid: &mut [u32],
@@ -43,8 +42,7 @@ pub extern "C" fn sp_run<'a, 'b>(
 }
 
 // A run from a point on a grid of colour sets, with a coloured card.
-#[unsafe(no_mangle)]
-pub extern "C" fn sp_run_point<'a, 'b>(
+pub fn sp_run_point<'a, 'b>(
     width: usize,
     height: usize,
     x: usize,
@@ -81,8 +79,7 @@ pub extern "C" fn sp_run_point<'a, 'b>(
 }
 
 // A full run on a grid of binary cells, with a card of sizes.
-#[unsafe(no_mangle)]
-pub extern "C" fn sp_run_binary<'a>(
+pub fn sp_run_binary<'a>(
     width: usize,
     height: usize,
     grid: &mut [u32],
@@ -111,8 +108,7 @@ pub extern "C" fn sp_run_binary<'a>(
 }
 
 // A run from a point on a grid of binary cells, with a card of sizes.
-#[unsafe(no_mangle)]
-pub extern "C" fn sp_run_binary_point<'a>(
+pub fn sp_run_binary_point<'a>(
     width: usize,
     height: usize,
     x: usize,

@@ -1,0 +1,28 @@
+// One line solved. The answer is document 01's number.
+ghost use Rattle.rules.specs.Block.{coloured};
+ghost use Rattle.line.specs.Calls.{SolvesLine, SolvesBinaryLine};
+
+#[unsafe(no_mangle)]
+pub extern "C" fn sp_solve_line(
+    cells: &[u32],
+    sizes: &[u32],
+    colours: &[u32],
+    memo: &mut [u8],
+    out: &mut [u32],
+) -> u32
+    ensures { SolvesLine cells.now (coloured sizes.now colours.now) memo.old out.old result memo.new out.new }
+{
+    device::lines::sp_solve_line(cells, sizes, colours, memo, out)
+}
+
+#[unsafe(no_mangle)]
+pub extern "C" fn sp_solve_binary_line(
+    cells: &[u32],
+    sizes: &[u32],
+    memo: &mut [u8],
+    out: &mut [u32],
+) -> u32
+    ensures { SolvesBinaryLine cells.now sizes.now memo.old out.old result memo.new out.new }
+{
+    device::lines::sp_solve_binary_line(cells, sizes, memo, out)
+}
