@@ -31,19 +31,19 @@ pub solve_cells-requires : goal.solve_cells-requires
 solve_cells-requires c =
     (solvable c.requires _ (row_is (goal.at.solve_cells-requires c).After-row), rw c.in-Row.is at (roomy_cells c.requires _ (row_is (goal.at.solve_cells-requires c).After-row)))
 
-column-on : (c : In-Column) → c.in-Column.x.0 <
+column_on : (c : In-Column) → c.in-Column.x.0 <
     c.args.width
-column-on c =
+column_on c =
     rw c.in-Column.is at c.requires.on
 
-column-is : (c : After-copy_column) → take
+column_is : (c : After-copy_column) → take
     c.args.height
     c.copy_column.new.line ≡ line_of
     c.args.width
     c.args.height
     c.args.grid.now
     c.args.line
-column-is c =
+column_is c =
     rw c.in-Column.is (column_copied c.requires.grid c.in-Column.x.0 c.args.column.now c.copy_column.new.line c.requires.copy
     c.copy_column.ensures)
 
@@ -56,16 +56,16 @@ high c =
 
 pub copy_column-requires : goal.copy_column-requires
 copy_column-requires c =
-    (c.requires.grid, column-on (goal.at.copy_column-requires c).In-Column, c.requires.copy)
+    (c.requires.grid, column_on (goal.at.copy_column-requires c).In-Column, c.requires.copy)
 
 pub slice_bounds-solve_cells-end-in-Column : goal.slice_bounds-solve_cells-end-in-Column
 slice_bounds-solve_cells-end-in-Column c = sym (high (goal.at.slice_bounds-solve_cells-end-in-Column c).After-copy_column)
 
 pub solve_cells-requires-in-Column : goal.solve_cells-requires-in-Column
 solve_cells-requires-in-Column c = (
-  solvable c.requires _ (column-is (goal.at.solve_cells-requires-in-Column c).After-copy_column),
+  solvable c.requires _ (column_is (goal.at.solve_cells-requires-in-Column c).After-copy_column),
   rw c.in-Column.is at
-      (roomy_cells c.requires _ (column-is (goal.at.solve_cells-requires-in-Column c).After-copy_column)),
+      (roomy_cells c.requires _ (column_is (goal.at.solve_cells-requires-in-Column c).After-copy_column)),
 )
 
 pub returns-in-Row : goal.returns-in-Row
@@ -75,4 +75,4 @@ returns-in-Row c =
 
 pub returns-in-Column : goal.returns-in-Column
 returns-in-Column c =
-    attempted_line c.in-Column.is (column-is (goal.at.returns-in-Column c).After-copy_column) c.solve_cells-in-Column.ensures
+    attempted_line c.in-Column.is (column_is (goal.at.returns-in-Column c).After-copy_column) c.solve_cells-in-Column.ensures

@@ -15,13 +15,13 @@ use Rattle.pbm.proofs.raster.write_pixels.Goals.{After-code_of}
 pub loop-i-init : goal.loop-i-init
 loop-i-init c = (omega arith, going_start _ _ _)
 
-abbrev at-code-of : After-code_of → ℕ
-at-code-of c = c.loop-i.i
+abbrev at_code_of : After-code_of → ℕ
+at_code_of c = c.loop-i.i
 
 -- the cell that is written comes first of those that are left
 cell : (c : After-code_of)
-    → pixels (drop (at-code-of c) c.args.text.now)
-    ≡ code_of (get_or c.args.text.now (at-code-of c) 0) ∷ pixels (drop (at-code-of c + 1) c.args.text.now)
+    → pixels (drop (at_code_of c) c.args.text.now)
+    ≡ code_of (get_or c.args.text.now (at_code_of c) 0) ∷ pixels (drop (at_code_of c + 1) c.args.text.now)
 cell c =
     pixel_cell c.args.text.now c.loop-i.i c.loop-i-test.true (sym c.is_pixel.ensures ∙ c.if-is_pixel.true)
 

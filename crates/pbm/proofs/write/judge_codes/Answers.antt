@@ -17,12 +17,12 @@ pub returns-then-codes-width : goal.returns-then-codes-width
 returns-then-codes-width c = sym (ink_count c.args.width c.args.height c.args.codes.now c.args.room c.if-codes-width.true)
 
 -- how long the rows and the heading can be
-rows-most : (c : After-heading_length) → c.args.height * (c.args.width + 1) ≤ 64 * 65
-rows-most c =
+rows_most : (c : After-heading_length) → c.args.height * (c.args.width + 1) ≤ 64 * 65
+rows_most c =
     mul-le-mul {n₁ = c.args.height} {m₁ = c.args.width + 1} {n₂ = 64} {m₂ = 65} c.requires.1 (omega (arith, c.requires.0))
 
-heading-most : (c : After-heading_length) → c.heading_length.result ≤ 9
-heading-most c =
+heading_most : (c : After-heading_length) → c.heading_length.result ≤ 9
+heading_most c =
     omega
     (arith, c.heading_length.ensures, heading_length_lem c.args.width c.args.height, decimal_most c.args.width, decimal_most c.args.height)
 
@@ -30,10 +30,10 @@ pub overflow_add-width : goal.overflow_add-width
 overflow_add-width c = omega (arith, c.requires.0)
 
 pub overflow_mul-height : goal.overflow_mul-height
-overflow_mul-height c = omega (arith, rows-most c)
+overflow_mul-height c = omega (arith, rows_most c)
 
 pub overflow_add-heading_length : goal.overflow_add-heading_length
-overflow_add-heading_length c = omega (arith, rows-most c, heading-most c)
+overflow_add-heading_length c = omega (arith, rows_most c, heading_most c)
 
 pub returns-then-room-heading_length : goal.returns-then-room-heading_length
 returns-then-room-heading_length c =

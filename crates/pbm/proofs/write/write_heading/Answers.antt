@@ -10,29 +10,29 @@ use Rattle.pbm.proofs.write.write_heading.Goals as goal
 use Rattle.pbm.proofs.write.write_heading.Goals.{After-slice_known-1, After-slice_known-2-1, After-slice_known-3-1}
 
 -- the text has room for what comes next, and for all that follows
-magic-room : (c : After-slice_known-1)
+magic_room : (c : After-slice_known-1)
     → 5 + length (decimal c.args.width) + length (decimal c.args.height) ≤ length c.args.text.now
-magic-room c = omega (arith, c.requires.2, heading_length_lem c.args.width c.args.height)
+magic_room c = omega (arith, c.requires.2, heading_length_lem c.args.width c.args.height)
 
 pub bounds-text-0 : goal.bounds-text-0
-bounds-text-0 c = omega (arith, magic-room c)
+bounds-text-0 c = omega (arith, magic_room c)
 
 pub bounds-text-1 : goal.bounds-text-1
-bounds-text-1 c = omega (arith, magic-room c, length-set c.args.text.now 0 80)
+bounds-text-1 c = omega (arith, magic_room c, length-set c.args.text.now 0 80)
 
 pub bounds-text-2 : goal.bounds-text-2
 bounds-text-2 c =
-    omega (arith, magic-room c, length-set c.args.text.now 0 80, length-set (set c.args.text.now 0 80) 1 49)
+    omega (arith, magic_room c, length-set c.args.text.now 0 80, length-set (set c.args.text.now 0 80) 1 49)
 
 pub write_number-end-requires : goal.write_number-end-requires
 write_number-end-requires c =
-    (c.requires.0, omega (arith, magic-room (goal.at.write_number-end-requires c).After-slice_known-1, put_length (put_magic c.args.text.now)))
+    (c.requires.0, omega (arith, magic_room (goal.at.write_number-end-requires c).After-slice_known-1, put_length (put_magic c.args.text.now)))
 
 width_room : (c : After-slice_known-2-1)
     → c.write_number-end.result + 2 + length (decimal c.args.height) ≤ length c.write_number-end.new.text
 width_room c =
     let magic = put_magic c.args.text.now in
-    omega (arith, magic-room c.before.before.before.before, c.write_number-end.ensures.end, put_length c.write_number-end.ensures, put_length magic)
+    omega (arith, magic_room c.before.before.before.before, c.write_number-end.ensures.end, put_length c.write_number-end.ensures, put_length magic)
 
 pub bounds-text-end : goal.bounds-text-end
 bounds-text-end c = omega (arith, width_room c)
@@ -45,12 +45,12 @@ pub write_number-end-requires-2 : goal.write_number-end-requires-2
 write_number-end-requires-2 c =
     (c.requires.1, omega (arith, width_room (goal.at.write_number-end-requires-2 c).After-slice_known-2-1, length-set c.write_number-end.new.text c.write_number-end.result 32))
 
-height-room : (c : After-slice_known-3-1) → c.write_number-end-2.result < length c.write_number-end-2.new.text
-height-room c =
+height_room : (c : After-slice_known-3-1) → c.write_number-end-2.result < length c.write_number-end-2.new.text
+height_room c =
     omega (arith, width_room c.before.before.before.before, c.write_number-end-2.ensures.end, put_length c.write_number-end-2.ensures, length-set c.write_number-end.new.text c.write_number-end.result 32)
 
 pub bounds-text-end-2 : goal.bounds-text-end-2
-bounds-text-end-2 c = height-room c
+bounds-text-end-2 c = height_room c
 
 pub overflow_add-result : goal.overflow_add-result
 overflow_add-result c =
