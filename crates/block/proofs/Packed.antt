@@ -12,7 +12,7 @@ use native.Mathlib.Numerals.{add-one}
 use Rattle.rules.proofs.Blocks.{blocks_step}
 use Rattle.rules.specs.Packing.{next, total, sums_from, starts_from}
 use Rattle.block.specs.Steps.{gap_next, edge, edges_from}
-use Rattle.rules.specs.Block.{Block, ◌of◌, blocks}
+use Rattle.rules.specs.Block.{Block, blocks}
 use Rattle.rules.specs.Placement.{one, gap, pieces}
 
 -- ---- the gap between a block and the next, by the list of colours

@@ -5,7 +5,7 @@ use Rattle.rules.proofs.Replies.{same, writes_refused, writes_done}
 use Rattle.rules.proofs.Verdicts.{blocks_fine, pair_fine, room_same}
 use mathlib.Core.Bool.{Bool}
 use mathlib.Core.List.{List}
-use Prim.Native.Nat.{ℕ, ◌-◌}
+use Prim.Native.Nat.{ℕ}
 use native.Mathlib.Omega.{arith}
 use borrow.Author.Tests.{leb-true}
 use lib.Dec.{leb}

@@ -5,7 +5,7 @@ use Rattle.rules.proofs.Replies.{writes_refused, writes_done, blocks_refused, bl
 use Rattle.rules.proofs.Verdicts.{Counted, count_fine, count_same}
 use mathlib.Core.Bool.{Bool, true, ◌&&◌}
 use mathlib.Core.List.{List, map}
-use Prim.Native.Nat.{ℕ, ◌-◌, ◌≤◌}
+use Prim.Native.Nat.{ℕ, ◌≤◌}
 use native.Mathlib.Omega.{arith}
 use borrow.Author.Tests.{leb-true, eqb-true}
 use lib.Dec.{eqb, leb}

@@ -9,13 +9,13 @@ use borrow.Author.Tests.{eq-eqb, ne_eqb, lt-ltb, le-ltb, ltb-false, not-false, e
 use lib.Dec.{eqb, ltb}
 use lib.ListN.{length, take, drop, length-drop}
 use lib.Seq.{take_all}
-use Rattle.rules.specs.Pbm.{Heading, heading, pixels, is_stray_of, begins_spaced, is_drawn_of, raster_rules, read_rules, is_other, heading_text, rows_text, pbm_text, ink_rules, write_rules}
+use Rattle.rules.specs.Pbm.{Heading, pixels, is_stray_of, begins_spaced, is_drawn_of, raster_rules, read_rules, is_other, heading_text, rows_text, pbm_text, ink_rules, write_rules}
 use Rattle.rules.specs.Ranges.{any_of}
 use Rattle.rules.specs.Refusal.{◌when◌, verdict, side_rules}
 use Rattle.rules.specs.declared.Refusal.{Refusal}
 use Rattle.rules.specs.declared.Refusal.TheVariants.{BadLength, BadRoom, BadCode, BadText}
 use Rattle.rules.specs.declared.Verdict.TheVariants.{Fine, Bad}
-use Rattle.rules.specs.declared.ListAnswer.TheVariants.{Done, Refused}
+use Rattle.rules.specs.declared.ListAnswer.TheVariants.{Done}
 use Rattle.rules.proofs.Tests.{both_true, below?}
 use Rattle.rules.proofs.Verdicts.{fine_cons, append_parts, append_bad, sides_fine, sides_bad}
 use Rattle.rules.proofs.Replies.{writes_done}

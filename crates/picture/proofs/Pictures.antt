@@ -19,7 +19,7 @@ use Rattle.rules.proofs.Gatherings.{lines_counted, lines_paired, gathered_card, 
 use Rattle.rules.proofs.Readings.{get_or-map_lt, map_line, read_colour_lem, read_placement, codes_legal, black_placement, black_only, black_colour, black_legal}
 use Rattle.picture.proofs.Fitted.{Fitted, fits_all}
 use Rattle.rules.proofs.Verdicts.{sides_fine, sides_good, append_fine}
-use Rattle.rules.specs.Block.{Block, black, sizes_by, colours_by, Legal, illegal_colour_of}
+use Rattle.rules.specs.Block.{Block, sizes_by, colours_by, Legal, illegal_colour_of}
 use Rattle.rules.specs.Board.{row, column, len, On, place, line_of, Picture}
 use Rattle.rules.specs.Card.{clue_of, Straight, row_clues_of, column_clues_of, gathered, count_of}
 use Rattle.rules.specs.CardRules.{card_rules}

@@ -31,7 +31,6 @@ use Rattle.rules.specs.declared.LinePosition.{LinePosition}
 use Rattle.rules.specs.declared.Refusal.{Refusal}
 use Rattle.rules.specs.declared.Verdict.TheVariants.{Fine, Bad}
 use Rattle.picture.specs.declared.CluesAnswer.TheVariants as Clues
-use Rattle.rules.specs.declared.ListAnswer.TheVariants.{Done}
 
 -- ---- how long the lists are
 

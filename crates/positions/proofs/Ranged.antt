@@ -12,7 +12,7 @@ use lib.ListN.{length, take, drop, get_or, drop_of_length-le, replicate}
 use lib.Seq.{drop-cons, take-suc, sets, length-sets, get_or-drop}
 use Rattle.rules.proofs.Tests.{cond_false}
 use Rattle.rules.proofs.Blocks.{colours_back, length_blocks}
-use Rattle.rules.specs.Block.{blocks, ◌of◌}
+use Rattle.rules.specs.Block.{blocks}
 use Rattle.rules.specs.Ranges.{any_of, new_of, first_of, last_of, range_start, range_end}
 use Rattle.rules.specs.Packing.{minimal_space, sums_from, starts_from}
 use Rattle.block.specs.Steps.{edges_from, Paired}

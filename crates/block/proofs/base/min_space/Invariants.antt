@@ -1,14 +1,10 @@
 -- `base::min_space` meets its contract. The invariant: the start, and what is left, give the whole.
 use Prim.Native.Nat.{◌≤◌, ◌-◌, ◌+◌, ◌*◌}
 use lib.ListN.{length, drop}
-use mathlib.Core.Path.{◌≡◌, ap, ◌∙◌}
-use Rattle.block.proofs.Packed.{gap_low, total_step}
-use Rattle.rules.proofs.Blocks.{blocks_end}
+use mathlib.Core.Path.{◌≡◌}
 use Rattle.rules.specs.Block.{blocks}
 use Rattle.rules.specs.Packing.{total}
 use Rattle.rules.specs.Placement.{pieces}
-use borrow.Author.Rules.{rules}
-use native.Mathlib.Omega.{arith}
 use Rattle.block.proofs.base.min_space.Given as goal
 
 abbrev pub invariant-loop-i : goal.invariant-loop-i

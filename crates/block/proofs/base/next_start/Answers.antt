@@ -1,7 +1,6 @@
 -- `base::next_start` meets its contract, by its tests.
 use Rattle.block.proofs.Packed.{gap_same, gap_other, gap_none}
 use native.Mathlib.Omega.{arith}
-use borrow.Author.Rules.{rules}
 use Rattle.block.proofs.base.next_start.Goals as goal
 
 pub returns-then-colours-i : goal.returns-then-colours-i

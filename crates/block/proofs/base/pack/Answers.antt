@@ -1,13 +1,8 @@
 -- `base::pack` meets its contract. The invariant: what is left to write gives the whole; the start grows by less than 2 ^ 32 + 1 a turn.
-use Prim.Native.Nat.{◌≤◌, ◌-◌, ◌*◌}
-use lib.ListN.{length, drop, length-set}
-use lib.Seq.{sets}
-use mathlib.Core.Path.{◌≡◌, refl, ◌∙◌}
+use lib.ListN.{length-set}
+use mathlib.Core.Path.{refl, ◌∙◌}
 use Rattle.block.proofs.Packed.{gap_low, edges_step}
-use Rattle.block.specs.Steps.{edges_from}
 use Rattle.rules.proofs.Blocks.{blocks_end}
-use Rattle.rules.specs.Block.{blocks}
-use borrow.Author.Rules.{rules}
 use native.Mathlib.Omega.{arith}
 use Rattle.block.proofs.base.pack.Goals as goal
 
@@ -25,14 +20,13 @@ pub loop-i-smaller : goal.loop-i-smaller
 loop-i-smaller c = omega arith
 
 pub loop-i-preserved : goal.loop-i-preserved
-loop-i-preserved c =
-    (
-      omega arith,
-      simp length-set c.loop-i.invariant.1,
-      omega (arith, c.wide.ensures.low, c.next_start-start.ensures, gap_low c.args.colours.now c.loop-i.i),
-      rw (c.edge_of.ensures, c.next_start-start.ensures, c.wide.ensures.same)
-          (edges_step _ _ _ _ c.loop-i-test.true c.requires.paired.equal _ _ ∙ c.loop-i.invariant.3),
-    )
+loop-i-preserved c = (
+  omega arith,
+  simp length-set c.loop-i.invariant.1,
+  omega (arith, c.wide.ensures.low, c.next_start-start.ensures, gap_low c.args.colours.now c.loop-i.i),
+  rw (c.edge_of.ensures, c.next_start-start.ensures, c.wide.ensures.same)
+      (edges_step _ _ _ _ c.loop-i-test.true c.requires.paired.equal _ _ ∙ c.loop-i.invariant.3),
+)
 
 pub returns : goal.returns
 returns c =

@@ -1,14 +1,10 @@
 -- `base::pack` meets its contract. The invariant: what is left to write gives the whole; the start grows by less than 2 ^ 32 + 1 a turn.
 use Prim.Native.Nat.{◌≤◌, ◌-◌, ◌*◌}
-use lib.ListN.{length, drop, length-set}
+use lib.ListN.{length, drop}
 use lib.Seq.{sets}
-use mathlib.Core.Path.{◌≡◌, refl, ◌∙◌}
-use Rattle.block.proofs.Packed.{gap_low, edges_step}
+use mathlib.Core.Path.{◌≡◌}
 use Rattle.block.specs.Steps.{edges_from}
-use Rattle.rules.proofs.Blocks.{blocks_end}
 use Rattle.rules.specs.Block.{blocks}
-use borrow.Author.Rules.{rules}
-use native.Mathlib.Omega.{arith}
 use Rattle.block.proofs.base.pack.Given as goal
 
 abbrev pub invariant-loop-i : goal.invariant-loop-i

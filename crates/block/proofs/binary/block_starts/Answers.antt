@@ -10,7 +10,6 @@ use Rattle.block.specs.Calls.{BlockStarts}
 use Rattle.rules.proofs.Replies.{writes_refused}
 use Rattle.rules.proofs.Verdicts.{count_fine}
 use Rattle.rules.specs.Block.{Lent}
-use borrow.Author.Rules.{rules}
 use Rattle.block.proofs.binary.block_starts.Goals as goal
 use Rattle.block.proofs.binary.block_starts.Goals.{In-Fine}
 

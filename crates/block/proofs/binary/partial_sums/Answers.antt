@@ -10,7 +10,6 @@ use Rattle.block.specs.Calls.{PartialSums}
 use Rattle.rules.proofs.Replies.{writes_refused}
 use Rattle.rules.proofs.Verdicts.{count_fine}
 use Rattle.rules.specs.Block.{Lent}
-use borrow.Author.Rules.{rules}
 use Rattle.block.proofs.binary.partial_sums.Goals as goal
 use Rattle.block.proofs.binary.partial_sums.Goals.{In-Fine}
 

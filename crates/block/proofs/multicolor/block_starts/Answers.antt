@@ -4,7 +4,6 @@ use mathlib.Core.Path.{sym, ◌∙◌}
 use Rattle.block.proofs.Packed.{edges_starts}
 use Rattle.block.proofs.Told.{pack_refused, packable, packed}
 use Rattle.rules.specs.Packing.{starts_from}
-use borrow.Author.Rules.{rules}
 use Rattle.block.proofs.multicolor.block_starts.Goals as goal
 
 pub pack-requires : goal.pack-requires

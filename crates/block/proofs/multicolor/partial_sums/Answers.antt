@@ -4,7 +4,6 @@ use mathlib.Core.Path.{sym, ◌∙◌}
 use Rattle.block.proofs.Packed.{edges_sums}
 use Rattle.block.proofs.Told.{pack_refused, packable, packed}
 use Rattle.rules.specs.Packing.{sums_from}
-use borrow.Author.Rules.{rules}
 use Rattle.block.proofs.multicolor.partial_sums.Goals as goal
 
 pub pack-requires : goal.pack-requires

@@ -3,7 +3,6 @@ use borrow.Author.Tests.{eq-eqb, ne_eqb}
 use mathlib.Core.Path.{◌≡◌, sym, ◌∙◌}
 use Rattle.rules.specs.Card.{sum}
 use Rattle.card.proofs.Counted.{sum-all}
-use borrow.Author.Rules.{rules}
 use Rattle.card.proofs.judge.counts_fit.Goals as goal
 use Rattle.card.proofs.judge.counts_fit.Goals.{After-sum_to}
 

@@ -6,7 +6,6 @@ use Rattle.rules.specs.Refusal.{verdict}
 use Rattle.rules.proofs.Blocks.{blacks_blocks}
 use Rattle.card.specs.Steps.{legal_rules}
 use Rattle.card.proofs.Counted.{card_bad, card_fine, black_counts}
-use borrow.Author.Rules.{rules}
 use Rattle.card.proofs.judge.judge_black_card.Goals as goal
 use Rattle.card.proofs.judge.judge_black_card.Goals.{Start}
 

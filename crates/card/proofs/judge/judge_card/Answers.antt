@@ -6,7 +6,6 @@ use Rattle.rules.specs.declared.Verdict.TheVariants.{Fine}
 use Rattle.rules.specs.Card.{Card, card_of}
 use Rattle.card.specs.Steps.{legal_rules}
 use Rattle.card.proofs.Counted.{counting, counts_known, card_bad, card_fine}
-use borrow.Author.Rules.{rules}
 use Rattle.card.proofs.judge.judge_card.Goals as goal
 use Rattle.card.proofs.judge.judge_card.Goals.{In-Fine, Start}
 

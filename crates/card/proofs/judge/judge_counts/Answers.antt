@@ -6,7 +6,6 @@ use Rattle.rules.specs.Refusal.{Rule, verdict, side_rules}
 use Rattle.rules.specs.declared.Verdict.TheVariants.{Fine}
 use Rattle.rules.proofs.Verdicts.{append_bad, append_fine, sides_fine}
 use Rattle.card.specs.Steps.{test_rules}
-use borrow.Author.Rules.{rules}
 use Rattle.card.proofs.judge.judge_counts.Goals as goal
 use Rattle.card.proofs.judge.judge_counts.Goals.{In-Fine, Start}
 

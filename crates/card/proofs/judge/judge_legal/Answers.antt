@@ -1,5 +1,4 @@
 -- `judge::judge_legal` meets its contract, by its tests.
-use borrow.Author.Rules.{rules}
 use Rattle.card.proofs.judge.judge_legal.Goals as goal
 
 pub returns-then-bad_row : goal.returns-then-bad_row

@@ -1,5 +1,4 @@
 -- `parts::line_part` meets its contract.
-use borrow.Author.Rules.{rules}
 use Rattle.card.proofs.parts.line_part.Goals as goal
 
 pub part_of-requires : goal.part_of-requires

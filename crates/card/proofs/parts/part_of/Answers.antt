@@ -1,10 +1,9 @@
 -- `parts::part_of` meets its contract.
 use Rattle.rules.proofs.Lists.{part_count}
-use Prim.Native.Nat.{◌+◌, ◌-◌, ◌≤◌}
+use Prim.Native.Nat.{◌+◌, ◌≤◌}
 use lib.ListN.{length, get_or}
 use native.Mathlib.Omega.{arith}
 use Rattle.card.proofs.Counted.{sum_part}
-use borrow.Author.Rules.{rules}
 use Rattle.card.proofs.parts.part_of.Goals as goal
 use Rattle.card.proofs.parts.part_of.Goals.{After-shared_slice_known-3-1}
 

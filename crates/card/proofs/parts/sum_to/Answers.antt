@@ -1,5 +1,4 @@
 -- `parts::sum_to` meets its contract: the counts before j are summed.
-use Prim.Native.Nat.{◌-◌, ◌*◌, ◌≤◌}
 use lib.ListN.{take}
 use mathlib.Core.Path.{◌≡◌, ap}
 use native.Mathlib.Omega.{arith}

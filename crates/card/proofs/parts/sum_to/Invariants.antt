@@ -1,10 +1,8 @@
 -- `parts::sum_to` meets its contract: the counts before j are summed.
 use Prim.Native.Nat.{◌-◌, ◌*◌, ◌≤◌}
 use lib.ListN.{take}
-use mathlib.Core.Path.{◌≡◌, ap}
-use native.Mathlib.Omega.{arith}
+use mathlib.Core.Path.{◌≡◌}
 use Rattle.rules.specs.Card.{sum}
-use Rattle.card.proofs.Counted.{sum_more}
 use Rattle.card.proofs.parts.sum_to.Given as goal
 
 abbrev pub invariant-loop-j : goal.invariant-loop-j

@@ -5,7 +5,6 @@ use mathlib.Core.Path.{sym, ◌∙◌}
 use Rattle.clue.proofs.Told.{binary_line_fine, binary_done}
 use Rattle.rules.proofs.Replies.{writes_refused}
 use native.Mathlib.Omega.{arith}
-use borrow.Author.Rules.{rules}
 use Rattle.clue.proofs.binary.from_line.Goals as goal
 use Rattle.clue.proofs.binary.from_line.Goals.{In-Fine}
 

@@ -1,12 +1,11 @@
 -- `inks::read_codes` meets its contract: what is left to write gives the whole.
-use Prim.Native.Nat.{◌+◌, ◌-◌, ◌≤◌}
+use Prim.Native.Nat.{◌+◌}
 use mathlib.Core.Path.{sym, ap, ◌∙◌}
 use mathlib.Core.List.{◌∷◌}
-use lib.ListN.{length, drop, drop_of_length-le}
-use Rattle.loops.proofs.Going.{Going, going_start, going_put, going_done}
+use lib.ListN.{drop, drop_of_length-le}
+use Rattle.loops.proofs.Going.{going_start, going_put, going_done}
 use Rattle.loops.proofs.Stores.{drop_step}
 use Rattle.rules.specs.Clue.{black_white}
-use borrow.Author.Rules.{rules}
 use native.Mathlib.Omega.{arith}
 use Rattle.clue.proofs.inks.read_codes.Goals as goal
 
@@ -14,13 +13,12 @@ pub loop-i-init : goal.loop-i-init
 loop-i-init c = (omega arith, going_start _ _ _)
 
 pub loop-i-preserved : goal.loop-i-preserved
-loop-i-preserved c =
-    (
-      omega arith,
-      going_put c.loop-i.invariant.1
-          (ap (black_white c.args.blank) (drop_step _ c.loop-i.i c.loop-i-test.true)
-          ∙ ap (λ x. x ∷ black_white c.args.blank (drop (c.loop-i.i + 1) c.args.codes.now)) (sym c.read_code.ensures)),
-    )
+loop-i-preserved c = (
+  omega arith,
+  going_put c.loop-i.invariant.1
+      (ap (black_white c.args.blank) (drop_step _ c.loop-i.i c.loop-i-test.true)
+      ∙ ap (λ x. x ∷ black_white c.args.blank (drop (c.loop-i.i + 1) c.args.codes.now)) (sym c.read_code.ensures)),
+)
 
 pub shape_of-out : goal.shape_of-out
 shape_of-out c = c.loop-i.invariant.1.long

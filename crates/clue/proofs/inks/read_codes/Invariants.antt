@@ -1,13 +1,8 @@
 -- `inks::read_codes` meets its contract: what is left to write gives the whole.
-use Prim.Native.Nat.{◌+◌, ◌-◌, ◌≤◌}
-use mathlib.Core.Path.{sym, ap, ◌∙◌}
-use mathlib.Core.List.{◌∷◌}
-use lib.ListN.{length, drop, drop_of_length-le}
-use Rattle.loops.proofs.Going.{Going, going_start, going_put, going_done}
-use Rattle.loops.proofs.Stores.{drop_step}
+use Prim.Native.Nat.{◌-◌, ◌≤◌}
+use lib.ListN.{length, drop}
+use Rattle.loops.proofs.Going.{Going}
 use Rattle.rules.specs.Clue.{black_white}
-use borrow.Author.Rules.{rules}
-use native.Mathlib.Omega.{arith}
 use Rattle.clue.proofs.inks.read_codes.Given as goal
 
 abbrev pub invariant-loop-i : goal.invariant-loop-i

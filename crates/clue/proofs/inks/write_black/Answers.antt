@@ -6,7 +6,6 @@ use Rattle.clue.proofs.Told.{front_read, front_long}
 use Rattle.clue.specs.Steps.{entries}
 use Rattle.loops.specs.Put.{Put}
 use Rattle.rules.specs.Clue.{clue}
-use borrow.Author.Rules.{rules}
 use Rattle.clue.proofs.inks.write_black.Goals as goal
 
 pub slice_bounds-write_line-end : goal.slice_bounds-write_line-end

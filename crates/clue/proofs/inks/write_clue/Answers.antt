@@ -1,5 +1,4 @@
 -- `inks::write_clue` meets its contract: a case each.
-use borrow.Author.Rules.{rules}
 use Rattle.clue.proofs.inks.write_clue.Goals as goal
 
 pub returns-in-Coloured : goal.returns-in-Coloured

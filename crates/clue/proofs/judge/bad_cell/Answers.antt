@@ -1,6 +1,5 @@
 -- `judge::bad_cell` meets its contract, by its test.
 use borrow.Author.Tests.{eq-eqb, ne_eqb}
-use borrow.Author.Rules.{rules}
 use Rattle.clue.proofs.judge.bad_cell.Goals as goal
 
 pub returns-then-code-blank : goal.returns-then-code-blank

@@ -3,12 +3,9 @@ use Prim.Native.Nat.{◌≤◌, ◌-◌}
 use lib.Dec.{eqb}
 use lib.ListN.{length, drop}
 use mathlib.Core.Bool.{false, cond}
-use mathlib.Core.Path.{◌≡◌, refl, sym, ◌∙◌}
-use Rattle.rules.proofs.Searching.{any_step, any_end}
+use mathlib.Core.Path.{◌≡◌}
 use Rattle.rules.specs.Block.{illegal_colour_of}
 use Rattle.rules.specs.Ranges.{any_of}
-use borrow.Author.Rules.{rules}
-use native.Mathlib.Omega.{arith}
 use Rattle.clue.proofs.judge.bad_code.Given as goal
 
 abbrev pub invariant-loop-i : goal.invariant-loop-i

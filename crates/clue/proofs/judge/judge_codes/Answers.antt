@@ -1,5 +1,5 @@
 -- `judge::judge_codes` meets its contract, by its tests.
-use borrow.Author.Tests.{not-true, not-false}
+use borrow.Author.Tests.{not-false}
 use mathlib.Core.Path.{ap}
 use mathlib.Core.Bool.{not}
 use Rattle.clue.proofs.judge.judge_codes.Goals as goal

@@ -3,7 +3,6 @@ use mathlib.Core.Path.{sym, ◌∙◌}
 use Rattle.clue.specs.Calls.{code_rules}
 use Rattle.rules.proofs.Verdicts.{append_bad, append_fine}
 use Rattle.rules.specs.Refusal.{length_rules}
-use borrow.Author.Rules.{rules}
 use Rattle.clue.proofs.judge.judge_line.Goals as goal
 
 pub returns-in-Bad : goal.returns-in-Bad

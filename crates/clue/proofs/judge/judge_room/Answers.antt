@@ -1,5 +1,4 @@
 -- `judge::judge_room` meets its contract, by its test.
-use borrow.Author.Tests.{not-true, not-false}
 use Rattle.clue.proofs.judge.judge_room.Goals as goal
 
 pub returns-then-not-roomy : goal.returns-then-not-roomy

@@ -1,10 +1,7 @@
 -- `line::count_runs` meets its contract: what is counted, and what is left, give the whole.
-use Prim.Native.Nat.{◌≤◌, ◌-◌, ◌+◌}
-use lib.ListN.{length, drop, get_or}
-use mathlib.Core.Path.{◌≡◌, ap}
+use lib.ListN.{length, get_or}
+use mathlib.Core.Path.{ap}
 use Rattle.clue.proofs.Leads.{lead_within, clue_blank, clue_block, clue_end}
-use Rattle.rules.specs.Clue.{clue}
-use borrow.Author.Rules.{rules}
 use native.Mathlib.Omega.{arith}
 use Rattle.clue.proofs.line.count_runs.Goals as goal
 
@@ -25,14 +22,13 @@ loop-index-smaller-then-code-blank c =
     )
 
 pub loop-index-preserved-then-code-blank : goal.loop-index-preserved-then-code-blank
-loop-index-preserved-then-code-blank c =
-    (
-      omega
-          (arith, lead_within (get_or c.args.line.now c.loop-index.index 0) c.args.line.now c.loop-index.index c.loop-index-test.true, c.run_length-index.ensures),
-      omega (arith, c.run_length-index.ensures),
-      rw c.run_length-index.ensures
-          (omega (arith, c.loop-index.invariant.2, ap length (clue_block c.args.blank c.args.line.now c.loop-index.index c.loop-index-test.true c.if-code-blank.true))),
-    )
+loop-index-preserved-then-code-blank c = (
+  omega
+      (arith, lead_within (get_or c.args.line.now c.loop-index.index 0) c.args.line.now c.loop-index.index c.loop-index-test.true, c.run_length-index.ensures),
+  omega (arith, c.run_length-index.ensures),
+  rw c.run_length-index.ensures
+      (omega (arith, c.loop-index.invariant.2, ap length (clue_block c.args.blank c.args.line.now c.loop-index.index c.loop-index-test.true c.if-code-blank.true))),
+)
 
 pub loop-index-smaller : goal.loop-index-smaller
 loop-index-smaller c =
@@ -43,14 +39,13 @@ loop-index-smaller c =
     )
 
 pub loop-index-preserved : goal.loop-index-preserved
-loop-index-preserved c =
-    (
-      omega
-          (arith, lead_within (get_or c.args.line.now c.loop-index.index 0) c.args.line.now c.loop-index.index c.loop-index-test.true, c.run_length-index.ensures),
-      omega (arith, c.run_length-index.ensures),
-      rw c.run_length-index.ensures
-          (omega (arith, c.loop-index.invariant.2, ap length (clue_blank c.args.blank c.args.line.now c.loop-index.index c.loop-index-test.true c.if-code-blank.false))),
-    )
+loop-index-preserved c = (
+  omega
+      (arith, lead_within (get_or c.args.line.now c.loop-index.index 0) c.args.line.now c.loop-index.index c.loop-index-test.true, c.run_length-index.ensures),
+  omega (arith, c.run_length-index.ensures),
+  rw c.run_length-index.ensures
+      (omega (arith, c.loop-index.invariant.2, ap length (clue_blank c.args.blank c.args.line.now c.loop-index.index c.loop-index-test.true c.if-code-blank.false))),
+)
 
 pub returns : goal.returns
 returns c =

@@ -1,11 +1,8 @@
 -- `line::count_runs` meets its contract: what is counted, and what is left, give the whole.
 use Prim.Native.Nat.{◌≤◌, ◌-◌, ◌+◌}
-use lib.ListN.{length, drop, get_or}
-use mathlib.Core.Path.{◌≡◌, ap}
-use Rattle.clue.proofs.Leads.{lead_within, clue_blank, clue_block, clue_end}
+use lib.ListN.{length, drop}
+use mathlib.Core.Path.{◌≡◌}
 use Rattle.rules.specs.Clue.{clue}
-use borrow.Author.Rules.{rules}
-use native.Mathlib.Omega.{arith}
 use Rattle.clue.proofs.line.count_runs.Given as goal
 
 abbrev pub invariant-loop-index : goal.invariant-loop-index

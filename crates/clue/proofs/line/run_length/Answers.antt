@@ -1,10 +1,7 @@
 -- `line::run_length` meets its contract: all codes from the first up to i are the same.
-use Prim.Native.Nat.{◌≤◌, ◌-◌, ◌+◌, ◌<◌}
-use lib.ListN.{length, drop, get_or}
-use mathlib.Core.Path.{◌≡◌, refl}
+use lib.ListN.{get_or}
+use mathlib.Core.Path.{refl}
 use Rattle.clue.proofs.Leads.{lead_same, lead_other, lead_end}
-use Rattle.clue.specs.Steps.{lead}
-use borrow.Author.Rules.{rules}
 use native.Mathlib.Omega.{arith}
 use Rattle.clue.proofs.line.run_length.Goals as goal
 
@@ -17,13 +14,12 @@ returns-then-line-i c =
     (arith, c.loop-i.invariant.2, lead_other (get_or c.args.line.now c.args.from 0) c.args.line.now c.loop-i.i c.loop-i-test.true c.if-line-i.true)
 
 pub loop-i-preserved : goal.loop-i-preserved
-loop-i-preserved c =
-    (
-      omega arith,
-      omega arith,
-      omega
-          (arith, c.loop-i.invariant.2, lead_same (get_or c.args.line.now c.args.from 0) c.args.line.now c.loop-i.i c.loop-i-test.true c.if-line-i.false),
-    )
+loop-i-preserved c = (
+  omega arith,
+  omega arith,
+  omega
+      (arith, c.loop-i.invariant.2, lead_same (get_or c.args.line.now c.args.from 0) c.args.line.now c.loop-i.i c.loop-i-test.true c.if-line-i.false),
+)
 
 pub returns : goal.returns
 returns c =

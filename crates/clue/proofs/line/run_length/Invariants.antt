@@ -1,11 +1,8 @@
 -- `line::run_length` meets its contract: all codes from the first up to i are the same.
 use Prim.Native.Nat.{◌≤◌, ◌-◌, ◌+◌, ◌<◌}
-use lib.ListN.{length, drop, get_or}
-use mathlib.Core.Path.{◌≡◌, refl}
-use Rattle.clue.proofs.Leads.{lead_same, lead_other, lead_end}
+use lib.ListN.{length, drop}
+use mathlib.Core.Path.{◌≡◌}
 use Rattle.clue.specs.Steps.{lead}
-use borrow.Author.Rules.{rules}
-use native.Mathlib.Omega.{arith}
 use Rattle.clue.proofs.line.run_length.Given as goal
 
 abbrev pub invariant-loop-i : goal.invariant-loop-i

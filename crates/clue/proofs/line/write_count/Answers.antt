@@ -2,9 +2,7 @@
 use lib.ListN.{set}
 use mathlib.Core.Path.{refl, ap}
 use Rattle.rules.proofs.Clues.{clue_length}
-use Rattle.rules.specs.Placement.{end}
 use native.Mathlib.Omega.{arith}
-use borrow.Author.Rules.{rules}
 use Rattle.clue.proofs.line.write_count.Goals as goal
 
 pub overflow_cast-out : goal.overflow_cast-out

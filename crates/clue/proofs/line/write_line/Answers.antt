@@ -1,7 +1,5 @@
 -- `line::write_line` meets its contract: a case each.
-use Rattle.rules.specs.Run.{room}
 use native.Mathlib.Omega.{arith}
-use borrow.Author.Rules.{rules}
 use Rattle.clue.proofs.line.write_line.Goals as goal
 
 pub write_count-requires : goal.write_count-requires

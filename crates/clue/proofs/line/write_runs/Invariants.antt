@@ -1,13 +1,9 @@
 -- `line::write_runs` meets its contract: what is left to write gives the whole.
 use Prim.Native.Nat.{◌≤◌, ◌-◌, ◌+◌}
-use lib.ListN.{length, drop, get_or}
-use mathlib.Core.Path.{ap}
-use Rattle.clue.proofs.Leads.{lead_within, clue_blank, clue_block, clue_end}
+use lib.ListN.{length, drop}
 use Rattle.clue.specs.Steps.{fields}
-use Rattle.loops.proofs.Going.{Going, going_start, going_put, going_on, going_done}
+use Rattle.loops.proofs.Going.{Going}
 use Rattle.rules.specs.Clue.{clue}
-use borrow.Author.Rules.{rules}
-use native.Mathlib.Omega.{arith}
 use Rattle.clue.proofs.line.write_runs.Given as goal
 
 abbrev pub invariant-loop-index : goal.invariant-loop-index

@@ -7,7 +7,6 @@ use Rattle.clue.proofs.Told.{line_fine, line_same, coloured_done}
 use Rattle.rules.proofs.Tests.{rooms}
 use Rattle.rules.proofs.Replies.{blocks_refused}
 use native.Mathlib.Omega.{arith}
-use borrow.Author.Rules.{rules}
 use Rattle.clue.proofs.multicolor.from_line.Goals as goal
 use Rattle.clue.proofs.multicolor.from_line.Goals.{In-Fine}
 

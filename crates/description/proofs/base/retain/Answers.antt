@@ -1,14 +1,10 @@
 -- `base::retain` meets its contract: in each list, what is left to write gives the whole.
-use Prim.Native.Nat.{◌≤◌, ◌-◌}
-use borrow.Author.Tests.{not-true, not-false}
-use lib.ListN.{length, drop}
 use mathlib.Core.Path.{sym, ap, ◌∙◌}
 use Rattle.description.proofs.Described.{drop_block, keep_block}
-use Rattle.loops.proofs.Going.{Going, going_start, going_put, going_on, going_done}
+use Rattle.loops.proofs.Going.{going_start, going_put, going_on, going_done}
 use Rattle.rules.proofs.Blocks.{blocks_end}
-use Rattle.rules.specs.Block.{sizes_by, colours_by, blocks}
+use Rattle.rules.specs.Block.{sizes_by, colours_by}
 use Rattle.rules.specs.Clue.{described}
-use borrow.Author.Rules.{rules}
 use native.Mathlib.Omega.{arith}
 use Rattle.description.proofs.base.retain.Goals as goal
 

@@ -7,7 +7,6 @@ use Rattle.rules.proofs.Blocks.{blacks_length}
 use Rattle.description.proofs.Told.{described_refused, binary_few, binary_retainable, described_done}
 use Rattle.rules.specs.Refusal.{verdict, count_rules}
 use Rattle.rules.specs.declared.Verdict.TheVariants.{Fine}
-use borrow.Author.Rules.{rules}
 use Rattle.description.proofs.binary.description_new.Goals as goal
 use Rattle.description.proofs.binary.description_new.Goals.{In-Fine}
 

@@ -1,7 +1,6 @@
 -- `multicolor::description_new` meets its contract: the rules, and then the pass.
 use mathlib.Core.Path.{sym, ◌∙◌}
 use Rattle.description.proofs.Told.{description_refused, retainable, description_done}
-use borrow.Author.Rules.{rules}
 use Rattle.description.proofs.multicolor.description_new.Goals as goal
 
 pub retain-entries-requires : goal.retain-entries-requires

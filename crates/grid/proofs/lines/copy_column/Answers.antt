@@ -1,12 +1,7 @@
 -- `lines::copy_column` meets its contract: what is left to copy gives the whole.
-use Prim.Native.Nat.{◌≤◌, ◌-◌}
-use lib.ListN.{drop}
 use mathlib.Core.Path.{◌≡◌, sym, ◌∙◌}
 use Rattle.grid.proofs.Rows.{cell_in, column_step, column_end}
-use Rattle.loops.proofs.Going.{Going, going_start, going_put, going_done}
-use Rattle.rules.specs.Board.{column, line_of}
-use Rattle.rules.specs.Placement.{end}
-use borrow.Author.Rules.{rules}
+use Rattle.loops.proofs.Going.{going_start, going_put, going_done}
 use native.Mathlib.Omega.{arith}
 use Rattle.grid.proofs.lines.copy_column.Goals as goal
 

@@ -1,7 +1,5 @@
 -- `lines::row` meets its contract.
 use Rattle.rules.proofs.Lists.{part_count}
-use Prim.Native.Nat.{◌-◌}
-use borrow.Author.Rules.{rules}
 use Rattle.grid.proofs.lines.row.Goals as goal
 
 pub returns : goal.returns

@@ -1,7 +1,6 @@
 -- `store::cell_of` meets its contract.
 use native.Mathlib.Omega.{arith}
 use Rattle.grid.proofs.Storing.{product_small}
-use borrow.Author.Rules.{rules}
 use Rattle.grid.proofs.store.cell_of.Goals as goal
 
 pub overflow_mul-result : goal.overflow_mul-result

@@ -1,8 +1,8 @@
 -- `store::store_line` meets its contract: what is left to store and to report gives the whole.
-use Prim.Native.Nat.{◌-◌, ◌<◌}
+use Prim.Native.Nat.{◌<◌}
 use native.Mathlib.Omega.{arith}
 use lib.ListN.{length}
-use Rattle.grid.proofs.Storing.{Storing, store_start, in_line, place_in, cell_small, store_same, room_for, store_change, store_end}
+use Rattle.grid.proofs.Storing.{store_start, in_line, place_in, cell_small, store_same, room_for, store_change, store_end}
 use Rattle.grid.proofs.store.store_line.Goals as goal
 use Rattle.grid.proofs.store.store_line.Goals.{then-grid-cell, else-grid-cell}
 use Rattle.grid.proofs.store.store_line.Goals.{After-cell_of-cell, Then-grid-cell}
@@ -68,12 +68,12 @@ loop-j-smaller c = omega arith
 pub loop-j-preserved : goal.loop-j-preserved
 loop-j-preserved c =
     elim c.if-grid-cell.branch [
-      then-grid-cell w ↦
-        rw (w.grid-is, w.report-is, w.entries-is, c.cell_of-cell.ensures)
-        (store_change _ _ _ _ _ _ _ c.requires c.loop-j.invariant c.loop-j-test.true (rw c.cell_of-cell.ensures at w.if-grid-cell.true))
+      | then-grid-cell w ↦
+          rw (w.grid-is, w.report-is, w.entries-is, c.cell_of-cell.ensures)
+          (store_change _ _ _ _ _ _ _ c.requires c.loop-j.invariant c.loop-j-test.true (rw c.cell_of-cell.ensures at w.if-grid-cell.true))
       | else-grid-cell w ↦
-        rw (w.grid-is, w.report-is, w.entries-is)
-        (store_same _ _ _ _ _ _ _ c.requires c.loop-j.invariant c.loop-j-test.true (rw c.cell_of-cell.ensures at w.if-grid-cell.false))
+          rw (w.grid-is, w.report-is, w.entries-is)
+          (store_same _ _ _ _ _ _ _ c.requires c.loop-j.invariant c.loop-j-test.true (rw c.cell_of-cell.ensures at w.if-grid-cell.false))
     ]
 
 pub shape_of-grid : goal.shape_of-grid

@@ -1,9 +1,7 @@
 -- `store::store_line` meets its contract: what is left to store and to report gives the whole.
-use Prim.Native.Nat.{◌-◌, ◌<◌}
-use mathlib.Core.Logic.{⊎_elim}
-use native.Mathlib.Omega.{arith}
+use Prim.Native.Nat.{◌-◌}
 use lib.ListN.{length}
-use Rattle.grid.proofs.Storing.{Storing, store_start, in_line, place_in, cell_small, store_same, room_for, store_change, store_end}
+use Rattle.grid.proofs.Storing.{Storing}
 use Rattle.grid.proofs.store.store_line.Given as goal
 
 abbrev pub invariant-loop-j : goal.invariant-loop-j

@@ -1,5 +1,4 @@
 -- `bytes::is_commented` meets its contract, by its test.
-use borrow.Author.Rules.{rules}
 use Rattle.pbm.proofs.bytes.is_commented.Goals as goal
 
 pub returns-then-open : goal.returns-then-open

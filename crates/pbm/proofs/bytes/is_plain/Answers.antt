@@ -1,5 +1,4 @@
 -- `bytes::is_plain` meets its contract, by its tests.
-use borrow.Author.Rules.{rules}
 use mathlib.Core.Path.{sym, ◌∙◌}
 use Rattle.pbm.proofs.bytes.is_plain.Goals as goal
 

@@ -1,5 +1,4 @@
 -- `bytes::is_stray` meets its contract, by its test.
-use borrow.Author.Rules.{rules}
 use Rattle.pbm.proofs.bytes.is_stray.Goals as goal
 
 pub returns-then-is_space : goal.returns-then-is_space

@@ -1,6 +1,5 @@
 -- `heading::has_magic` meets its contract, by its tests.
 use Rattle.pbm.proofs.Headings.{magic_short, magic_other, magic_second}
-use borrow.Author.Rules.{rules}
 use Rattle.pbm.proofs.heading.has_magic.Goals as goal
 
 pub returns-then-text-lt2 : goal.returns-then-text-lt2

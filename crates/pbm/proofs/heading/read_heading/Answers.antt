@@ -3,8 +3,6 @@ use Rattle.pbm.proofs.Headings.{width_found}
 use Rattle.pbm.specs.Steps.{Found}
 use Rattle.pbm.specs.declared.heading.Size.{Size}
 use Rattle.rules.specs.Pbm.{heading_from, size_at}
-use borrow.Author.Rules.{rules}
-use borrow.Author.Tests.{not-true, not-false}
 use lib.ListN.{drop}
 use mathlib.Core.Bool.{cond}
 use mathlib.Core.Option.{none}

@@ -3,7 +3,6 @@ use Rattle.pbm.proofs.Headings.{height_found}
 use Rattle.pbm.specs.Steps.{Found}
 use Rattle.pbm.specs.declared.heading.Size.{Size}
 use Rattle.rules.specs.Pbm.{heading_with, size_at}
-use borrow.Author.Rules.{rules}
 use lib.ListN.{drop}
 use mathlib.Core.Path.{ap, subst}
 use Rattle.pbm.proofs.heading.read_height.Goals as goal

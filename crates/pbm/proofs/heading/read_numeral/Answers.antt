@@ -1,6 +1,5 @@
 -- `heading::read_numeral` meets its contract.
 use Rattle.pbm.proofs.Headings.{numeral_found, numeral_other, numeral_end}
-use borrow.Author.Rules.{rules}
 use mathlib.Core.Path.{sym, ◌∙◌}
 use Rattle.pbm.proofs.heading.read_numeral.Goals as goal
 

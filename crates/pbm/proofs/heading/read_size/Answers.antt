@@ -2,7 +2,6 @@
 use Rattle.pbm.proofs.Headings.{size_goes, size_other, size_end}
 use Rattle.pbm.specs.Steps.{Found}
 use Rattle.rules.specs.Pbm.{Sized, numeral_at}
-use borrow.Author.Rules.{rules}
 use mathlib.Core.Option.{Option}
 use mathlib.Core.Path.{sym, ap, subst, ◌∙◌}
 use Rattle.pbm.proofs.heading.read_size.Goals as goal

@@ -1,12 +1,9 @@
 -- `heading::skip_filler` meets its contract: what is left from i on leaves the same.
-use Prim.Native.Nat.{◌≤◌, ◌-◌, ◌+◌}
-use Rattle.pbm.proofs.Skipped.{filler_stops, filler_goes, filler_ends}
+use Prim.Native.Nat.{◌≤◌, ◌-◌}
 use Rattle.rules.specs.Pbm.{past_filler}
-use borrow.Author.Rules.{rules}
 use lib.ListN.{length, drop}
 use mathlib.Core.Bool.{false}
-use mathlib.Core.Path.{◌≡◌, refl, sym, ap, ◌∙◌}
-use native.Mathlib.Omega.{arith}
+use mathlib.Core.Path.{◌≡◌}
 use Rattle.pbm.proofs.heading.skip_filler.Given as goal
 
 abbrev pub invariant-loop-i : goal.invariant-loop-i

@@ -1,6 +1,5 @@
 -- `numbers::add_digit` meets its contract, by its test.
 use Rattle.rules.proofs.Tests.{both_true}
-use borrow.Author.Rules.{rules}
 use borrow.Author.Tests.{lt-ltb, le-ltb, leb-true}
 use lib.Dec.{leb}
 use native.Mathlib.Omega.{arith}

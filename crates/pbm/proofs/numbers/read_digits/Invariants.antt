@@ -1,13 +1,8 @@
 -- `numbers::read_digits` meets its contract: what is left from i on gives the whole.
 use Prim.Native.Nat.{◌≤◌, ◌-◌}
-use Prim.Native.Nat.{ℕ, ◌+◌}
-use Rattle.pbm.proofs.Skipped.{Reading, held_most, reading_more, reading_stops, reading_ends}
+use Rattle.pbm.proofs.Skipped.{Reading}
 use Rattle.rules.specs.Pbm.{digits}
-use borrow.Author.Rules.{rules}
-use borrow.Author.Tests.{not-true, not-false}
 use lib.ListN.{length, drop}
-use mathlib.Core.Path.{refl, sym, ◌∙◌, subst}
-use native.Mathlib.Omega.{arith}
 use Rattle.pbm.proofs.numbers.read_digits.Given as goal
 
 abbrev pub invariant-loop-i : goal.invariant-loop-i

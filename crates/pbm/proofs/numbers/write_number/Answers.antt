@@ -1,7 +1,6 @@
 -- `numbers::write_number` meets its contract: one digit, or two.
 use Prim.Native.Nat.{◌+◌, ◌/◌}
 use Rattle.pbm.proofs.Lines.{one_digit, two_digits, put_short, put_long}
-use borrow.Author.Rules.{rules}
 use lib.ListN.{length, length-set}
 use mathlib.Core.Path.{ap}
 use native.Mathlib.Omega.{arith}

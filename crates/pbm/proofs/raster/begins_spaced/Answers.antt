@@ -1,6 +1,5 @@
 -- `raster::begins_spaced` meets its contract, by its test.
 use Rattle.pbm.proofs.Pixels.{spaced_none, spaced_some}
-use borrow.Author.Rules.{rules}
 use mathlib.Core.Path.{◌∙◌}
 use Rattle.pbm.proofs.raster.begins_spaced.Goals as goal
 

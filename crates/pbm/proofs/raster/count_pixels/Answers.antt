@@ -1,10 +1,7 @@
 -- `raster::count_pixels` meets its contract: those that are left make up the whole.
-use Prim.Native.Nat.{◌≤◌, ◌-◌, ◌+◌}
 use Rattle.pbm.proofs.Pixels.{pixel_cell, pixel_none, pixel_end}
-use Rattle.rules.specs.Pbm.{pixels}
-use borrow.Author.Rules.{rules}
-use lib.ListN.{length, drop}
-use mathlib.Core.Path.{◌≡◌, sym, ap, ◌∙◌}
+use lib.ListN.{length}
+use mathlib.Core.Path.{sym, ap, ◌∙◌}
 use native.Mathlib.Omega.{arith}
 use Rattle.pbm.proofs.raster.count_pixels.Goals as goal
 

@@ -1,11 +1,8 @@
 -- `raster::count_pixels` meets its contract: those that are left make up the whole.
 use Prim.Native.Nat.{◌≤◌, ◌-◌, ◌+◌}
-use Rattle.pbm.proofs.Pixels.{pixel_cell, pixel_none, pixel_end}
 use Rattle.rules.specs.Pbm.{pixels}
-use borrow.Author.Rules.{rules}
 use lib.ListN.{length, drop}
-use mathlib.Core.Path.{◌≡◌, sym, ap, ◌∙◌}
-use native.Mathlib.Omega.{arith}
+use mathlib.Core.Path.{◌≡◌}
 use Rattle.pbm.proofs.raster.count_pixels.Given as goal
 
 abbrev pub invariant-loop-i : goal.invariant-loop-i

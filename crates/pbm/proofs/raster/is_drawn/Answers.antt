@@ -1,6 +1,5 @@
 -- `raster::is_drawn` meets its contract, by its tests.
-use borrow.Author.Rules.{rules}
-use borrow.Author.Tests.{not-true, not-false}
+use borrow.Author.Tests.{not-false}
 use mathlib.Core.Path.{sym, ◌∙◌}
 use mathlib.Core.Path.{ap}
 use mathlib.Core.Bool.{not}

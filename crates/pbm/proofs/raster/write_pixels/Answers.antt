@@ -1,9 +1,8 @@
 -- `raster::write_pixels` meets its contract: the cells that are left give the whole.
-use Prim.Native.Nat.{ℕ, ◌≤◌, ◌-◌, ◌+◌}
-use Rattle.loops.proofs.Going.{Going, going_start, going_put, going_on, going_done}
+use Prim.Native.Nat.{ℕ, ◌+◌}
+use Rattle.loops.proofs.Going.{going_start, going_put, going_on, going_done}
 use Rattle.pbm.proofs.Pixels.{pixel_cell, pixel_none, pixel_end}
 use Rattle.rules.specs.Pbm.{code_of, pixels}
-use borrow.Author.Rules.{rules}
 use lib.ListN.{get_or}
 use lib.ListN.{length, drop}
 use mathlib.Core.List.{◌∷◌}
@@ -37,12 +36,11 @@ loop-i-preserved-then-is_pixel c =
     (omega arith, going_put c.loop-i.invariant.1 (cell c ∙ ap (λ n. n ∷ pixels (drop (c.loop-i.i + 1) c.args.text.now)) (sym c.code_of.ensures)))
 
 pub loop-i-preserved : goal.loop-i-preserved
-loop-i-preserved c =
-    (
-      omega arith,
-      going_on c.loop-i.invariant.1
-          (pixel_none c.args.text.now c.loop-i.i c.loop-i-test.true (sym c.is_pixel.ensures ∙ c.if-is_pixel.false)),
-    )
+loop-i-preserved c = (
+  omega arith,
+  going_on c.loop-i.invariant.1
+      (pixel_none c.args.text.now c.loop-i.i c.loop-i-test.true (sym c.is_pixel.ensures ∙ c.if-is_pixel.false)),
+)
 
 pub shape_of-codes : goal.shape_of-codes
 shape_of-codes c = c.loop-i.invariant.1.long

@@ -5,8 +5,7 @@ use Rattle.rules.proofs.Verdicts.{append_bad, append_fine, sides_fine}
 use Rattle.rules.specs.Pbm.{raster_rules}
 use Rattle.rules.specs.Refusal.{verdict, side_rules}
 use Rattle.rules.specs.declared.Verdict.TheVariants.{Fine}
-use borrow.Author.Rules.{rules}
-use borrow.Author.Tests.{lt-ltb, le-ltb, not-true, not-false}
+use borrow.Author.Tests.{lt-ltb, le-ltb}
 use mathlib.Core.Path.{◌≡◌, sym, ◌∙◌}
 use native.Mathlib.Nat.{mul-le-mul}
 use native.Mathlib.Omega.{arith}

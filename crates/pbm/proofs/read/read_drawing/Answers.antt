@@ -1,6 +1,5 @@
 -- `read::read_drawing` meets its contract: the rules, and then the codes.
 use Rattle.pbm.proofs.Told.{reads_refused, drawing_fine, reads_done}
-use borrow.Author.Rules.{rules}
 use mathlib.Core.Path.{sym, ◌∙◌}
 use native.Mathlib.Omega.{arith}
 use Rattle.pbm.proofs.read.read_drawing.Goals as goal

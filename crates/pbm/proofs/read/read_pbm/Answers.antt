@@ -4,7 +4,6 @@ use Rattle.pbm.specs.Steps.{SidesFound, SidesRead}
 use Rattle.pbm.specs.declared.heading.Sides.{Sides}
 use Rattle.rules.specs.Pbm.{heading, read_rules}
 use Rattle.rules.specs.Refusal.{verdict}
-use borrow.Author.Rules.{rules}
 use lib.ListN.{length}
 use mathlib.Core.Path.{ap, subst}
 use native.Mathlib.Omega.{arith}

@@ -1,6 +1,5 @@
 -- `rows::digit_of` meets its contract.
 use Rattle.pbm.proofs.Lines.{ink_most}
-use borrow.Author.Rules.{rules}
 use native.Mathlib.Omega.{arith}
 use Rattle.pbm.proofs.rows.digit_of.Goals as goal
 

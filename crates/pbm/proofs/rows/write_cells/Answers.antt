@@ -1,6 +1,6 @@
 -- `rows::write_cells` meets its contract: the codes that are left give the whole.
-use Prim.Native.Nat.{◌≤◌, ◌<◌, ◌-◌, ◌+◌}
-use Rattle.loops.proofs.Going.{Going, going_start, going_put, going_done}
+use Prim.Native.Nat.{◌<◌, ◌+◌}
+use Rattle.loops.proofs.Going.{going_start, going_put, going_done}
 use Rattle.pbm.proofs.Lines.{digits_step, digits_end}
 use Rattle.rules.proofs.Codes.{any_at}
 use Rattle.rules.specs.Pbm.{digit_of}
@@ -39,13 +39,12 @@ pub overflow_add-end : goal.overflow_add-end
 overflow_add-end c = search (rules, room c)
 
 pub loop-i-preserved : goal.loop-i-preserved
-loop-i-preserved c =
-    (
-      omega arith,
-      going_put c.loop-i.invariant.1
-          (digits_step c.args.codes.now c.loop-i.i c.loop-i-test.true
-          ∙ ap (λ n. n ∷ map digit_of (drop (c.loop-i.i + 1) c.args.codes.now)) (sym c.digit_of.ensures)),
-    )
+loop-i-preserved c = (
+  omega arith,
+  going_put c.loop-i.invariant.1
+      (digits_step c.args.codes.now c.loop-i.i c.loop-i-test.true
+      ∙ ap (λ n. n ∷ map digit_of (drop (c.loop-i.i + 1) c.args.codes.now)) (sym c.digit_of.ensures)),
+)
 
 pub shape_of-text : goal.shape_of-text
 shape_of-text c = c.loop-i.invariant.1.long

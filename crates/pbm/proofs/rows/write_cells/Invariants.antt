@@ -1,15 +1,9 @@
 -- `rows::write_cells` meets its contract: the codes that are left give the whole.
-use Prim.Native.Nat.{◌≤◌, ◌<◌, ◌-◌, ◌+◌}
-use Rattle.loops.proofs.Going.{Going, going_start, going_put, going_done}
-use Rattle.pbm.proofs.Lines.{digits_step, digits_end}
-use Rattle.rules.proofs.Codes.{any_at}
+use Prim.Native.Nat.{◌≤◌, ◌-◌}
+use Rattle.loops.proofs.Going.{Going}
 use Rattle.rules.specs.Pbm.{digit_of}
-use Rattle.rules.specs.Pbm.{is_other}
-use borrow.Author.Rules.{rules}
-use lib.ListN.{length, drop, length-map}
-use mathlib.Core.List.{◌∷◌, map}
-use mathlib.Core.Path.{sym, ap, ◌∙◌}
-use native.Mathlib.Omega.{arith}
+use lib.ListN.{length, drop}
+use mathlib.Core.List.{map}
 use Rattle.pbm.proofs.rows.write_cells.Given as goal
 
 abbrev pub invariant-loop-i : goal.invariant-loop-i

@@ -1,13 +1,13 @@
 -- `rows::write_rows` meets its contract: the rows that are left give the whole.
-use Prim.Native.Nat.{◌≤◌, ◌-◌, ◌+◌, ◌*◌}
-use Rattle.loops.proofs.Going.{Going, going_start, going_on, going_puts, going_done}
+use Prim.Native.Nat.{◌≤◌, ◌-◌, ◌+◌}
+use Rattle.loops.proofs.Going.{going_start, going_on, going_puts, going_done}
 use Rattle.pbm.proofs.Lines.{ink_part, rows_start, rows_step, rows_end, row_within, row_length}
 use Rattle.rules.proofs.PbmRounds.{rows_length, line_length_lem}
 use Rattle.rules.specs.Pbm.{rows_text, line_text, digit_of}
 use borrow.Author.Rules.{rules}
 use lib.ListN.{length, drop, take, length-append}
 use mathlib.Core.List.{map}
-use mathlib.Core.Path.{◌≡◌, ap, ◌∙◌}
+use mathlib.Core.Path.{ap, ◌∙◌}
 use native.Mathlib.Nat.{mul_comm}
 use native.Mathlib.Omega.{arith}
 use Rattle.pbm.proofs.rows.write_rows.Goals as goal
@@ -58,13 +58,12 @@ write_row-end-requires c =
     )
 
 pub loop-y-preserved : goal.loop-y-preserved
-loop-y-preserved c =
-    (
-      omega arith,
-      omega (arith, c.loop-y.invariant.1),
-      going_puts c.loop-y.invariant.2 (rows_step c.args.width c.args.height c.loop-y.y c.loop-y.from c.args.codes.now c.loop-y-test.true)
-          c.write_row-end.ensures,
-    )
+loop-y-preserved c = (
+  omega arith,
+  omega (arith, c.loop-y.invariant.1),
+  going_puts c.loop-y.invariant.2 (rows_step c.args.width c.args.height c.loop-y.y c.loop-y.from c.args.codes.now c.loop-y-test.true)
+      c.write_row-end.ensures,
+)
 
 pub shape_of-text : goal.shape_of-text
 shape_of-text c = c.loop-y.invariant.2.long

@@ -1,12 +1,9 @@
 -- `write::any_other` meets its contract: none before i passes the test.
 use Prim.Native.Nat.{◌≤◌, ◌-◌}
-use Rattle.rules.proofs.Searching.{any_step, any_end}
 use Rattle.rules.specs.Pbm.{is_other}
 use Rattle.rules.specs.Ranges.{any_of}
-use borrow.Author.Rules.{rules}
 use lib.ListN.{length, drop}
-use mathlib.Core.Path.{◌≡◌, refl, sym, ◌∙◌}
-use native.Mathlib.Omega.{arith}
+use mathlib.Core.Path.{◌≡◌}
 use Rattle.pbm.proofs.write.any_other.Given as goal
 
 abbrev pub invariant-loop-i : goal.invariant-loop-i

@@ -1,6 +1,5 @@
 -- `write::heading_length` meets its contract.
 use Rattle.pbm.proofs.Lines.{heading_length_lem, decimal_most}
-use borrow.Author.Rules.{rules}
 use native.Mathlib.Omega.{arith}
 use Rattle.pbm.proofs.write.heading_length.Goals as goal
 

@@ -2,7 +2,6 @@
 use Rattle.rules.proofs.Verdicts.{append_bad, append_fine, sides_fine}
 use Rattle.rules.specs.Pbm.{ink_rules}
 use Rattle.rules.specs.Refusal.{side_rules}
-use borrow.Author.Rules.{rules}
 use mathlib.Core.Path.{sym, ◌∙◌}
 use Rattle.pbm.proofs.write.judge_picture.Goals as goal
 

@@ -3,7 +3,6 @@ use Rattle.loops.proofs.Going.{put_length}
 use Rattle.pbm.proofs.Told.{Writing, writing_fine, writes_text}
 use Rattle.rules.proofs.PbmRounds.{text_length}
 use Rattle.rules.proofs.Replies.{writes_refused}
-use borrow.Author.Rules.{rules}
 use lib.ListN.{length}
 use mathlib.Core.Path.{sym, ◌∙◌}
 use native.Mathlib.Omega.{arith}

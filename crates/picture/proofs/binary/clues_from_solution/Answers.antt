@@ -2,7 +2,6 @@
 use mathlib.Core.Path.{sym, ◌∙◌}
 use Rattle.picture.proofs.Told.{lists_refused, lists_done, binary_known}
 use Rattle.clue.specs.declared.Ink.TheVariants.{Black}
-use borrow.Author.Rules.{rules}
 use Rattle.picture.proofs.binary.clues_from_solution.Goals as goal
 
 pub write_clues-n-requires : goal.write_clues-n-requires

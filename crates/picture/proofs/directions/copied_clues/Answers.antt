@@ -1,5 +1,5 @@
 -- `picture::copied_clues` meets its contract: the columns that are left give the whole.
-use Prim.Native.Nat.{◌≤◌, ◌-◌, ℕ, ◌*◌}
+use Prim.Native.Nat.{◌≤◌, ℕ}
 use lib.ListN.{length, take}
 use lib.Seq.{length-sets}
 use mathlib.Core.List.{List}
@@ -8,24 +8,22 @@ use Rattle.grid.proofs.Rows.{column_copied}
 use Rattle.picture.proofs.Gathered.{lines_step, lines_end, lines_start, room_left, room_next}
 use Rattle.clue.proofs.Leads.{entries_low}
 use Rattle.clue.specs.Steps.{entries, per, clue_in}
-use Rattle.loops.proofs.Going.{Going, going_puts, going_done}
+use Rattle.loops.proofs.Going.{going_puts, going_done}
 use Rattle.loops.specs.Put.{Put}
 use Rattle.rules.proofs.Boards.{length_line}
 use Rattle.rules.specs.Board.{column, line_of}
-use Rattle.rules.specs.Card.{lines_from, gathered}
 use native.Mathlib.Omega.{arith}
 use Rattle.picture.proofs.directions.copied_clues.Goals as goal
 use Rattle.picture.proofs.directions.copied_clues.Goals.{After-copy_column}
 
 pub loop-x-init : goal.loop-x-init
-loop-x-init c =
-    (
-      omega arith,
-      omega arith,
-      lines_start (entries c.args.part) (λ k. clue_in c.args.ink c.args.blank (line_of c.args.width c.args.height c.args.codes.now (column k)))
-          c.args.width _,
-      refl,
-    )
+loop-x-init c = (
+  omega arith,
+  omega arith,
+  lines_start (entries c.args.part) (λ k. clue_in c.args.ink c.args.blank (line_of c.args.width c.args.height c.args.codes.now (column k)))
+      c.args.width _,
+  refl,
+)
 
 -- the copied column
 copied : (c : After-copy_column)
@@ -57,13 +55,12 @@ pub slice_bounds-write_clue-end-in-loop-x : goal.slice_bounds-write_clue-end-in-
 slice_bounds-write_clue-end-in-loop-x c = sym (high (goal.at.slice_bounds-write_clue-end-in-loop-x c).After-copy_column)
 
 pub write_clue-at-requires : goal.write_clue-at-requires
-write_clue-at-requires c =
-    (
-      rw (high (goal.at.write_clue-at-requires c).After-copy_column) c.requires.0.high_most,
-      rw (high (goal.at.write_clue-at-requires c).After-copy_column)
-          (room_left c.loop-x.at c.loop-x.x c.args.width (per c.args.part c.args.height) _ c.loop-x-test.true c.loop-x.invariant.1
-          (rw c.loop-x.invariant.2.long c.requires.1)),
-    )
+write_clue-at-requires c = (
+  rw (high (goal.at.write_clue-at-requires c).After-copy_column) c.requires.0.high_most,
+  rw (high (goal.at.write_clue-at-requires c).After-copy_column)
+      (room_left c.loop-x.at c.loop-x.x c.args.width (per c.args.part c.args.height) _ c.loop-x-test.true c.loop-x.invariant.1
+      (rw c.loop-x.invariant.2.long c.requires.1)),
+)
 
 pub overflow_add-x : goal.overflow_add-x
 overflow_add-x c = omega arith

@@ -1,5 +1,5 @@
 -- `picture::row_clues` meets its contract: the rows that are left give the whole.
-use Prim.Native.Nat.{◌≤◌, ◌-◌, ℕ, ◌*◌}
+use Prim.Native.Nat.{◌≤◌, ℕ}
 use lib.ListN.{length}
 use mathlib.Core.List.{List}
 use mathlib.Core.Path.{◌≡◌, ap, ◌∙◌, subst}
@@ -7,23 +7,21 @@ use Rattle.grid.proofs.Rows.{row_in, row_line}
 use Rattle.picture.proofs.Gathered.{lines_step, lines_end, lines_start, room_left, room_next}
 use Rattle.clue.proofs.Leads.{entries_low}
 use Rattle.clue.specs.Steps.{entries, per, clue_in}
-use Rattle.loops.proofs.Going.{Going, going_puts, going_done}
+use Rattle.loops.proofs.Going.{going_puts, going_done}
 use Rattle.loops.specs.Put.{Put}
 use Rattle.rules.proofs.Boards.{length_line}
 use Rattle.rules.specs.Board.{row, line_of}
-use Rattle.rules.specs.Card.{lines_from, gathered}
 use native.Mathlib.Omega.{arith}
 use Rattle.picture.proofs.directions.row_clues.Goals as goal
 use Rattle.picture.proofs.directions.row_clues.Goals.{After-row}
 
 pub loop-y-init : goal.loop-y-init
-loop-y-init c =
-    (
-      omega arith,
-      omega arith,
-      lines_start (entries c.args.part) (λ k. clue_in c.args.ink c.args.blank (line_of c.args.width c.args.height c.args.codes.now (row k)))
-          c.args.height _,
-    )
+loop-y-init c = (
+  omega arith,
+  omega arith,
+  lines_start (entries c.args.part) (λ k. clue_in c.args.ink c.args.blank (line_of c.args.width c.args.height c.args.codes.now (row k)))
+      c.args.height _,
+)
 
 -- the row that is lent
 lent : (c : After-row)
@@ -40,13 +38,12 @@ pub row-requires : goal.row-requires
 row-requires c = row_in c.requires.0 c.loop-y.y c.loop-y-test.true
 
 pub write_clue-at-requires : goal.write_clue-at-requires
-write_clue-at-requires c =
-    (
-      omega (arith, wide (goal.at.write_clue-at-requires c).After-row, c.requires.0.wide_most),
-      rw (wide (goal.at.write_clue-at-requires c).After-row)
-          (room_left c.loop-y.at c.loop-y.y c.args.height (per c.args.part c.args.width) _ c.loop-y-test.true c.loop-y.invariant.1
-          (rw c.loop-y.invariant.2.long c.requires.1)),
-    )
+write_clue-at-requires c = (
+  omega (arith, wide (goal.at.write_clue-at-requires c).After-row, c.requires.0.wide_most),
+  rw (wide (goal.at.write_clue-at-requires c).After-row)
+      (room_left c.loop-y.at c.loop-y.y c.args.height (per c.args.part c.args.width) _ c.loop-y-test.true c.loop-y.invariant.1
+      (rw c.loop-y.invariant.2.long c.requires.1)),
+)
 
 pub overflow_add-y : goal.overflow_add-y
 overflow_add-y c = omega arith

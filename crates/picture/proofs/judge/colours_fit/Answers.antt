@@ -1,8 +1,6 @@
 -- `judge::colours_fit` meets its contract, by its test.
-use borrow.Author.Tests.{not-true, not-false}
 use native.Mathlib.Nat.{mul-le-mul}
 use native.Mathlib.Omega.{arith}
-use borrow.Author.Rules.{rules}
 use Rattle.picture.proofs.judge.colours_fit.Goals as goal
 
 pub returns-then-not-fits : goal.returns-then-not-fits

@@ -4,7 +4,6 @@ use Rattle.rules.proofs.Verdicts.{sides_fine, append_bad, append_fine}
 use Rattle.clue.specs.Calls.{room_rules}
 use Rattle.picture.specs.Calls.{grid_fits}
 use Rattle.rules.specs.Refusal.{verdict, side_rules}
-use borrow.Author.Rules.{rules}
 use Rattle.picture.proofs.judge.judge_binary_grid.Goals as goal
 
 pub grid_fits-requires : goal.grid_fits-requires

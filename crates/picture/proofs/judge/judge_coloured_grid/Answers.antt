@@ -10,7 +10,6 @@ use Rattle.clue.specs.Calls.{code_rules}
 use Rattle.picture.specs.Calls.{grid_fits}
 use Rattle.rules.specs.Clue.{bad_code_of}
 use Rattle.rules.specs.Refusal.{side_rules}
-use borrow.Author.Rules.{rules}
 use Rattle.picture.proofs.judge.judge_coloured_grid.Goals as goal
 
 pub grid_fits-fits-requires : goal.grid_fits-fits-requires

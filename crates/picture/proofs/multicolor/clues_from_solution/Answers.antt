@@ -2,7 +2,6 @@
 use mathlib.Core.Path.{sym, ◌∙◌}
 use Rattle.picture.proofs.Told.{lists_refused, colours_refused, lists_done, colours_done, coloured_known, colours_known}
 use Rattle.clue.specs.declared.Ink.TheVariants.{Coloured}
-use borrow.Author.Rules.{rules}
 use Rattle.picture.proofs.multicolor.clues_from_solution.Goals as goal
 
 pub write_clues-n-requires : goal.write_clues-n-requires

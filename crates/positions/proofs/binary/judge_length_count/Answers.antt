@@ -3,7 +3,6 @@ use mathlib.Core.Bool.{true}
 use mathlib.Core.Path.{sym, ◌∙◌}
 use Rattle.rules.proofs.Verdicts.{append_bad, append_fine}
 use Rattle.rules.specs.Refusal.{length_rules, count_rules}
-use borrow.Author.Rules.{rules}
 use Rattle.positions.proofs.binary.judge_length_count.Goals as goal
 
 pub returns-in-Bad : goal.returns-in-Bad

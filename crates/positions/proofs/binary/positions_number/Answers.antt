@@ -7,7 +7,6 @@ use Rattle.rules.proofs.Blocks.{blacks_length, black_lent_lem}
 use Rattle.positions.proofs.Told.{positions_refused}
 use Rattle.positions.specs.Calls.{PositionsNumber}
 use Rattle.rules.specs.Block.{Lent}
-use borrow.Author.Rules.{rules}
 use Rattle.positions.proofs.binary.positions_number.Goals as goal
 use Rattle.positions.proofs.binary.positions_number.Goals.{In-Fine}
 

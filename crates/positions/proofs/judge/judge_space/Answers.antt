@@ -6,7 +6,6 @@ use Rattle.block.proofs.Told.{paired}
 use Rattle.positions.specs.Steps.{space_of}
 use Rattle.rules.specs.Block.{blocks, coloured}
 use Rattle.rules.specs.Packing.{minimal_space}
-use borrow.Author.Rules.{rules}
 use Rattle.positions.proofs.judge.judge_space.Goals as goal
 
 pub slack-requires : goal.slack-requires

@@ -1,6 +1,5 @@
 -- `judge::slack` meets its contract, by its test.
 use Rattle.positions.proofs.Judged.{space_tight, space_slack}
-use borrow.Author.Rules.{rules}
 use Rattle.positions.proofs.judge.slack.Goals as goal
 
 pub returns-then-cells-least : goal.returns-then-cells-least

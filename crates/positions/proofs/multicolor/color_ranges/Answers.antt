@@ -1,7 +1,6 @@
 -- `multicolor::color_ranges` meets its contract: the rules, and then the ranges.
 use mathlib.Core.Path.{sym, ◌∙◌}
 use Rattle.positions.proofs.Told.{color_refused, color_fit, color_done}
-use borrow.Author.Rules.{rules}
 use Rattle.positions.proofs.multicolor.color_ranges.Goals as goal
 
 pub write_all-entries-requires : goal.write_all-entries-requires

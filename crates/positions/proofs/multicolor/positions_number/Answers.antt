@@ -4,7 +4,6 @@ use mathlib.Core.Path.{sym, ◌∙◌}
 use Rattle.positions.proofs.Told.{positions_tight, positions_slack, slack_low}
 use Rattle.rules.specs.Block.{coloured}
 use native.Mathlib.Omega.{arith}
-use borrow.Author.Rules.{rules}
 use Rattle.positions.proofs.multicolor.positions_number.Goals as goal
 
 pub overflow_add-result : goal.overflow_add-result

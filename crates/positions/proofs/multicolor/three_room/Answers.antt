@@ -1,6 +1,5 @@
 -- `multicolor::three_room` meets its contract, by its test.
 use borrow.Author.Tests.{le-leb, lt-leb}
-use borrow.Author.Rules.{rules}
 use Rattle.positions.proofs.multicolor.three_room.Goals as goal
 
 pub returns-then-a-count : goal.returns-then-a-count

@@ -1,12 +1,8 @@
 -- `ranges::contains` meets its contract: the colour is not before i.
-use Prim.Native.Nat.{◌≤◌, ◌-◌}
 use borrow.Author.Tests.{eq-eqb, ne_eqb}
 use lib.Dec.{eqb}
-use lib.ListN.{length, drop}
-use mathlib.Core.Path.{◌≡◌, refl, sym, ◌∙◌}
+use mathlib.Core.Path.{refl, sym, ◌∙◌}
 use Rattle.rules.proofs.Searching.{any_step, any_end}
-use Rattle.rules.specs.Ranges.{any_of}
-use borrow.Author.Rules.{rules}
 use native.Mathlib.Omega.{arith}
 use Rattle.positions.proofs.ranges.contains.Goals as goal
 

@@ -1,12 +1,8 @@
 -- `ranges::last_index` meets its contract: what is left to look at gives the whole.
 use Prim.Native.Nat.{◌≤◌, ◌-◌, ◌+◌, ◌<◌}
-use borrow.Fn.PlainCycle.{is}
-use lib.ListN.{length, drop, get_or}
-use mathlib.Core.Path.{◌≡◌, refl, sym, ◌∙◌}
-use Rattle.positions.proofs.Ranged.{last_same, last_other, last_end}
+use lib.ListN.{length, drop}
+use mathlib.Core.Path.{◌≡◌}
 use Rattle.rules.specs.Ranges.{last_of}
-use borrow.Author.Rules.{rules}
-use native.Mathlib.Omega.{arith}
 use Rattle.positions.proofs.ranges.last_index.Given as goal
 
 abbrev pub invariant-loop-i : goal.invariant-loop-i

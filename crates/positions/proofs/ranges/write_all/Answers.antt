@@ -1,6 +1,5 @@
 -- `ranges::write_all` meets its contract, by the packed starts and ends.
 use Rattle.positions.proofs.Ranged.{ranges_need, ranges_of}
-use borrow.Author.Rules.{rules}
 use Rattle.positions.proofs.ranges.write_all.Goals as goal
 
 pub write_ranges-requires : goal.write_ranges-requires

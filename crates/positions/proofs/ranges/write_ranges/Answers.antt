@@ -1,17 +1,15 @@
 -- `ranges::write_ranges` meets its contract: in each list, what is left to write gives the whole.
-use Prim.Native.Nat.{◌≤◌, ◌-◌, ◌+◌}
-use borrow.Author.Tests.{not-true, not-false}
+use Prim.Native.Nat.{◌+◌}
 use lib.Dec.{eqb}
-use lib.ListN.{length, take, drop, get_or}
+use lib.ListN.{take, drop, get_or}
 use lib.Seq.{length-take-le}
 use mathlib.Core.Bool.{false}
-use mathlib.Core.List.{[], ◌∷◌, map}
+use mathlib.Core.List.{◌∷◌, map}
 use mathlib.Core.Path.{◌≡◌, sym, ap, ◌∙◌}
 use Rattle.positions.proofs.Ranged.{new_seen, new_fresh, new_end, first_here, last_here}
 use Rattle.positions.specs.Steps.{start_in, end_in}
-use Rattle.loops.proofs.Going.{Going, going_start, going_put, going_on, going_done}
+use Rattle.loops.proofs.Going.{going_start, going_put, going_on, going_done}
 use Rattle.rules.specs.Ranges.{any_of, new_of}
-use borrow.Author.Rules.{rules}
 use native.Mathlib.Omega.{arith}
 use Rattle.positions.proofs.ranges.write_ranges.Goals as goal
 use Rattle.positions.proofs.ranges.write_ranges.Goals.{After-last_index-last}

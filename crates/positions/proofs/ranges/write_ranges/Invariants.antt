@@ -1,18 +1,10 @@
 -- `ranges::write_ranges` meets its contract: in each list, what is left to write gives the whole.
-use Prim.Native.Nat.{◌≤◌, ◌-◌, ◌+◌}
-use borrow.Author.Tests.{not-true, not-false}
-use lib.Dec.{eqb}
-use lib.ListN.{length, take, drop, get_or}
-use lib.Seq.{length-take-le}
-use mathlib.Core.Bool.{false}
-use mathlib.Core.List.{[], ◌∷◌, map}
-use mathlib.Core.Path.{◌≡◌, sym, ap, ◌∙◌}
-use Rattle.positions.proofs.Ranged.{new_seen, new_fresh, new_end, first_here, last_here}
+use Prim.Native.Nat.{◌≤◌, ◌-◌}
+use lib.ListN.{length, take, drop}
+use mathlib.Core.List.{[], map}
 use Rattle.positions.specs.Steps.{start_in, end_in}
-use Rattle.loops.proofs.Going.{Going, going_start, going_put, going_on, going_done}
-use Rattle.rules.specs.Ranges.{any_of, new_of}
-use borrow.Author.Rules.{rules}
-use native.Mathlib.Omega.{arith}
+use Rattle.loops.proofs.Going.{Going}
+use Rattle.rules.specs.Ranges.{new_of}
 use Rattle.positions.proofs.ranges.write_ranges.Given as goal
 
 abbrev pub invariant-loop-i : goal.invariant-loop-i

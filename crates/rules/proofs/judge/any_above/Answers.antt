@@ -1,12 +1,7 @@
 -- `judge::any_above` meets its contract: no number before i is above.
-use Prim.Native.Nat.{◌≤◌, ◌-◌}
-use lib.Dec.{ltb}
-use lib.ListN.{length, drop}
-use mathlib.Core.Path.{◌≡◌, refl, sym, ◌∙◌}
+use mathlib.Core.Path.{refl, sym, ◌∙◌}
 use borrow.Author.Tests.{lt-ltb, le-ltb}
 use Rattle.rules.proofs.Searching.{any_step, any_end}
-use Rattle.rules.specs.Ranges.{any_of}
-use borrow.Author.Rules.{rules}
 use native.Mathlib.Omega.{arith}
 use Rattle.rules.proofs.judge.any_above.Goals as goal
 

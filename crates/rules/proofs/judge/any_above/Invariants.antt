@@ -2,12 +2,8 @@
 use Prim.Native.Nat.{◌≤◌, ◌-◌}
 use lib.Dec.{ltb}
 use lib.ListN.{length, drop}
-use mathlib.Core.Path.{◌≡◌, refl, sym, ◌∙◌}
-use borrow.Author.Tests.{lt-ltb, le-ltb}
-use Rattle.rules.proofs.Searching.{any_step, any_end}
+use mathlib.Core.Path.{◌≡◌}
 use Rattle.rules.specs.Ranges.{any_of}
-use borrow.Author.Rules.{rules}
-use native.Mathlib.Omega.{arith}
 use Rattle.rules.proofs.judge.any_above.Given as goal
 
 abbrev pub invariant-loop-i : goal.invariant-loop-i

@@ -1,12 +1,7 @@
 -- `judge::any_empty` meets its contract: no block before i is empty.
-use Prim.Native.Nat.{◌≤◌, ◌-◌}
-use lib.ListN.{length, drop}
-use mathlib.Core.List.{map}
-use mathlib.Core.Path.{◌≡◌, refl, sym, ◌∙◌}
+use mathlib.Core.Path.{refl, sym, ◌∙◌}
 use borrow.Author.Tests.{eq-eqb, ne_eqb}
 use Rattle.rules.proofs.Blocks.{black_step, black_end}
-use Rattle.rules.specs.Block.{black, illegal}
-use borrow.Author.Rules.{rules}
 use native.Mathlib.Omega.{arith}
 use Rattle.rules.proofs.judge.any_empty.Goals as goal
 

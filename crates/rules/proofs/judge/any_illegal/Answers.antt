@@ -1,10 +1,7 @@
 -- `judge::any_illegal` meets its contract: no block before i is illegal.
-use Prim.Native.Nat.{◌≤◌, ◌-◌}
-use lib.ListN.{length, drop}
-use mathlib.Core.Path.{◌≡◌, refl, sym, ap, ◌∙◌}
+use mathlib.Core.Path.{refl, sym, ap, ◌∙◌}
 use Rattle.rules.proofs.Blocks.{blocks_step, blocks_end}
-use Rattle.rules.specs.Block.{blocks, illegal}
-use borrow.Author.Rules.{rules}
+use Rattle.rules.specs.Block.{illegal}
 use native.Mathlib.Omega.{arith}
 use Rattle.rules.proofs.judge.any_illegal.Goals as goal
 
@@ -17,11 +14,10 @@ returns-then-illegal_block c =
     (c.loop-i.invariant.1 ∙ ap illegal (blocks_step _ _ _ c.loop-i-test.true (c.requires)) ∙ simp (sym c.illegal_block.ensures ∙ c.if-illegal_block.true))
 
 pub loop-i-preserved : goal.loop-i-preserved
-loop-i-preserved c =
-    (
-      omega arith,
-      c.loop-i.invariant.1 ∙ ap illegal (blocks_step _ _ _ c.loop-i-test.true (c.requires)) ∙ simp (sym c.illegal_block.ensures ∙ c.if-illegal_block.false),
-    )
+loop-i-preserved c = (
+  omega arith,
+  c.loop-i.invariant.1 ∙ ap illegal (blocks_step _ _ _ c.loop-i-test.true (c.requires)) ∙ simp (sym c.illegal_block.ensures ∙ c.if-illegal_block.false),
+)
 
 pub returns : goal.returns
 returns c = sym (c.loop-i.invariant.1 ∙ ap illegal (blocks_end _ _ _ c.loop-i-test.false))

@@ -1,11 +1,8 @@
 -- `judge::any_illegal` meets its contract: no block before i is illegal.
 use Prim.Native.Nat.{◌≤◌, ◌-◌}
 use lib.ListN.{length, drop}
-use mathlib.Core.Path.{◌≡◌, refl, sym, ap, ◌∙◌}
-use Rattle.rules.proofs.Blocks.{blocks_step, blocks_end}
+use mathlib.Core.Path.{◌≡◌}
 use Rattle.rules.specs.Block.{blocks, illegal}
-use borrow.Author.Rules.{rules}
-use native.Mathlib.Omega.{arith}
 use Rattle.rules.proofs.judge.any_illegal.Given as goal
 
 abbrev pub invariant-loop-i : goal.invariant-loop-i

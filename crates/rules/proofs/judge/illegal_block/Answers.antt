@@ -1,6 +1,5 @@
 -- `judge::illegal_block` meets its contract, by its tests.
 use borrow.Author.Tests.{eq-eqb, ne_eqb}
-use borrow.Author.Rules.{rules}
 use Rattle.rules.proofs.judge.illegal_block.Goals as goal
 
 pub returns-then-size-eq0 : goal.returns-then-size-eq0

@@ -1,7 +1,6 @@
 -- `judge::judge_black` meets its contract: the list is judged, and then each block.
 use mathlib.Core.Path.{sym, ◌∙◌}
 use Rattle.rules.proofs.Verdicts.{black_split}
-use borrow.Author.Rules.{rules}
 use Rattle.rules.proofs.judge.judge_black.Goals as goal
 
 pub returns-then-any_empty : goal.returns-then-any_empty

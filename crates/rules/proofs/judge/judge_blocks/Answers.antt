@@ -3,7 +3,6 @@ use borrow.Author.Tests.{eqb-true}
 use lib.ListN.{length}
 use mathlib.Core.Path.{sym, ◌∙◌}
 use Rattle.rules.proofs.Verdicts.{count_fine, blocks_split}
-use borrow.Author.Rules.{rules}
 use Rattle.rules.proofs.judge.judge_blocks.Goals as goal
 
 pub any_illegal-requires : goal.any_illegal-requires

@@ -2,7 +2,6 @@
 use mathlib.Core.Path.{sym, ◌∙◌}
 use Rattle.rules.proofs.Verdicts.{append_bad, append_fine}
 use Rattle.rules.specs.Refusal.{length_rules}
-use borrow.Author.Rules.{rules}
 use Rattle.rules.proofs.judge.judge_sides.Goals as goal
 
 pub returns-in-Bad : goal.returns-in-Bad

@@ -1,7 +1,6 @@
 -- `codes::code_of` meets its contract.
 use Rattle.stack.proofs.Coded.{code_row, code_column}
 use native.Mathlib.Omega.{arith}
-use borrow.Author.Rules.{rules}
 use Rattle.stack.proofs.codes.code_of.Goals as goal
 
 pub overflow_cast-result : goal.overflow_cast-result

@@ -1,5 +1,4 @@
 -- `codes::crossing` meets its contract.
-use borrow.Author.Rules.{rules}
 use Rattle.stack.proofs.codes.crossing.Goals as goal
 
 pub returns-in-Row : goal.returns-in-Row

@@ -1,7 +1,6 @@
 -- `codes::line_of` meets its contract.
 use Rattle.stack.proofs.Coded.{row_code, code_column}
 use mathlib.Core.Path.{sym}
-use borrow.Author.Rules.{rules}
 use Rattle.stack.proofs.codes.line_of.Goals as goal
 
 pub returns-then-code-lt64 : goal.returns-then-code-lt64

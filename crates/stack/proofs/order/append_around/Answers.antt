@@ -2,7 +2,6 @@
 use mathlib.Core.Path.{refl, sym}
 use native.Mathlib.Nat.{add-zero}
 use native.Mathlib.Omega.{arith}
-use borrow.Author.Rules.{rules}
 use Rattle.loops.proofs.Going.{put_then}
 use Rattle.stack.proofs.Ordered.{around_none, around_one, around_two, around_low, around_high}
 use Rattle.stack.proofs.order.append_around.Goals as goal

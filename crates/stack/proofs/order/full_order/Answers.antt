@@ -1,7 +1,6 @@
 -- `order::full_order` meets its contract: the distances that are left give the whole.
-use Prim.Native.Nat.{◌-◌}
 use native.Mathlib.Omega.{arith}
-use Rattle.stack.proofs.Ordered.{Laying, lay_none, lay_columns, lay_rows, lay_more, lay_done}
+use Rattle.stack.proofs.Ordered.{lay_none, lay_columns, lay_rows, lay_more, lay_done}
 use Rattle.stack.proofs.order.full_order.Goals as goal
 
 pub loop-distance-init : goal.loop-distance-init

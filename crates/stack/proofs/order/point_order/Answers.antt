@@ -3,11 +3,7 @@ use Rattle.stack.proofs.Coded.{two_lines}
 use lib.ListN.{length-set}
 use native.Mathlib.Omega.{arith}
 use mathlib.Core.Path.{refl}
-use borrow.Author.Rules.{rules}
 use Rattle.stack.proofs.order.point_order.Goals as goal
-
-pub bounds-stack-1 : goal.bounds-stack-1
-bounds-stack-1 c = simp length-set (omega (arith, c.requires.2))
 
 pub returns : goal.returns
 returns c =

@@ -3,9 +3,8 @@ use Prim.Native.Nat.{◌-◌}
 use mathlib.Core.Path.{◌∙◌}
 use native.Mathlib.Numerals.{add-one}
 use native.Mathlib.Omega.{arith}
-use borrow.Author.Rules.{rules}
 use Rattle.stack.proofs.Coded.{cross_small}
-use Rattle.stack.proofs.Pushed.{Topping, top_none, top_room, top_same, top_one, topped}
+use Rattle.stack.proofs.Pushed.{top_none, top_room, top_same, top_one, topped}
 use Rattle.stack.proofs.push.append_changed.Goals as goal
 
 pub loop-j-init : goal.loop-j-init

@@ -1,7 +1,6 @@
 -- `push::crosses_change` meets its contract.
 use mathlib.Core.Path.{sym, ◌∙◌}
 use native.Mathlib.Omega.{arith}
-use borrow.Author.Rules.{rules}
 use Rattle.stack.proofs.Coded.{cross_small}
 use Rattle.stack.proofs.Pushed.{crosses_not, crosses_at}
 use Rattle.stack.proofs.push.crosses_change.Goals as goal

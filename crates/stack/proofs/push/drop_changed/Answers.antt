@@ -1,12 +1,8 @@
 -- `push::drop_changed` meets its contract: the lines that stay have moved down so far.
-use Prim.Native.Nat.{◌-◌, ◌≤◌}
 use mathlib.Core.Path.{◌≡◌, sym, ◌∙◌}
-use mathlib.Core.Logic.{⊎_elim}
 use native.Mathlib.Numerals.{add-one}
 use native.Mathlib.Omega.{arith}
-use borrow.Author.Tests.{not-true, not-false}
-use Rattle.rules.specs.Run.{changed}
-use Rattle.stack.proofs.Pushed.{Packing, pack_none, pack_drop, pack_keep}
+use Rattle.stack.proofs.Pushed.{pack_none, pack_drop, pack_keep}
 use Rattle.stack.proofs.push.drop_changed.Goals as goal
 use Rattle.stack.proofs.push.drop_changed.Goals.{then-not-crosses_change, else-not-crosses_change}
 
@@ -38,18 +34,17 @@ pub loop-i-smaller : goal.loop-i-smaller
 loop-i-smaller c = omega arith
 
 pub loop-i-preserved : goal.loop-i-preserved
-loop-i-preserved c =
-    (
-      elim c.if-not-crosses_change.branch [
-        then-not-crosses_change w ↦
-          rw (w.stack-is, w.kept-is, add-one c.loop-i.i, add-one c.loop-i.kept)
-          (pack_keep c.loop-i.invariant.0 (omega (arith, c.requires.1, c.loop-i-test.true)) (sym c.crosses_change.ensures ∙ w.if-not-crosses_change.true))
-        | else-not-crosses_change w ↦
-          rw (w.stack-is, w.kept-is, add-one c.loop-i.i)
-          (pack_drop c.loop-i.invariant.0 (sym c.crosses_change.ensures ∙ w.if-not-crosses_change.false))
-      ],
-      omega arith,
-    )
+loop-i-preserved c = (
+  elim c.if-not-crosses_change.branch [
+    | then-not-crosses_change w ↦
+        rw (w.stack-is, w.kept-is, add-one c.loop-i.i, add-one c.loop-i.kept)
+        (pack_keep c.loop-i.invariant.0 (omega (arith, c.requires.1, c.loop-i-test.true)) (sym c.crosses_change.ensures ∙ w.if-not-crosses_change.true))
+    | else-not-crosses_change w ↦
+        rw (w.stack-is, w.kept-is, add-one c.loop-i.i)
+        (pack_drop c.loop-i.invariant.0 (sym c.crosses_change.ensures ∙ w.if-not-crosses_change.false))
+  ],
+  omega arith,
+)
 
 pub shape_of-stack : goal.shape_of-stack
 shape_of-stack c = c.loop-i.invariant.0.long

@@ -1,12 +1,7 @@
 -- `push::drop_changed` meets its contract: the lines that stay have moved down so far.
 use Prim.Native.Nat.{◌-◌, ◌≤◌}
-use mathlib.Core.Path.{◌≡◌, sym, ◌∙◌}
-use mathlib.Core.Logic.{⊎_elim}
-use native.Mathlib.Numerals.{add-one}
-use native.Mathlib.Omega.{arith}
-use borrow.Author.Tests.{not-true, not-false}
 use Rattle.rules.specs.Run.{changed}
-use Rattle.stack.proofs.Pushed.{Packing, pack_none, pack_drop, pack_keep}
+use Rattle.stack.proofs.Pushed.{Packing}
 use Rattle.stack.proofs.push.drop_changed.Given as goal
 
 abbrev pub invariant-loop-i : goal.invariant-loop-i

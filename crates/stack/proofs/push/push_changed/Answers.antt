@@ -1,6 +1,5 @@
 -- `push::push_changed` meets its contract.
 use native.Mathlib.Omega.{arith}
-use borrow.Author.Rules.{rules}
 use Rattle.stack.proofs.Pushed.{pushed_pair, pushed_count, pushed, pushed_room}
 use Rattle.stack.proofs.push.push_changed.Goals as goal
 
