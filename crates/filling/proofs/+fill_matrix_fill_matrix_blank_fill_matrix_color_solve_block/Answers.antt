@@ -1,10 +1,10 @@
 -- The proof of the cycle solve_block, fill_matrix, fill_matrix_blank and fill_matrix_color.
-use Rattle.std.proofs.Common.{◌≡◌, cond, ℕ, ◌+◌, ◌*◌, ◌-◌, ◌≤◌, ◌<◌, pos, w64, to_z, of_z, sym, ◌∙◌, arith}
+use Rattle.std.proofs.Common.{◌≡◌, ℕ, ◌+◌, ◌-◌, ◌≤◌, w64, to_z, of_z, sym, ◌∙◌, arith}
 use lib.IntN.{nat_abs}
 use mir.ValLaws.{to_z-of_z}
-use Rattle.filling.specs.Filling.{Line, held}
+use Rattle.filling.specs.Filling.{held}
 use Rattle.filling.specs.Steps.{cells_to, Lies, EndsBlank, EndsBlock, shade, stop_of}
-use Rattle.filling.proofs.Ints.{passed, no_cell, at_cell, natural, cast, cast_fits}
+use Rattle.filling.proofs.Ints.{passed, no_cell, at_cell, cast}
 use Rattle.filling.proofs.Fillings.{told, Piece, still, no_branch, space_le, at_edge, blank_fits, block_fits, no_piece, piece, piece_rest, both, learn}
 use Rattle.filling.proofs.Pieces.{Found, blank_piece, no_block, starts, block_piece}
 use Rattle.filling.proofs.+fill_matrix_fill_matrix_blank_fill_matrix_color_solve_block.Goals as goal

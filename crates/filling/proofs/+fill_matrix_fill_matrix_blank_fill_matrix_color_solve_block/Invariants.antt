@@ -1,8 +1,5 @@
-use Rattle.std.proofs.Common.{◌≡◌, cond, ℕ, ◌+◌, ◌*◌, ◌-◌, ◌^◌, ◌≤◌, ◌<◌, eqb, pos, length, ℤ, ◌+ℤ◌, ◌-ℤ◌, ◌*ℤ◌, ◌≤ℤ◌, ◌<ℤ◌, FitsSigned, to_z, of_z}
-use Rattle.std.proofs.Math.IntN.{sub_ℕ}
-use Rattle.rules.specs.Colour.{can_take}
-use Rattle.filling.specs.Filling.{held, trails, Fits}
-use Rattle.filling.specs.Steps.{Decides, cells_to, CanShow, Lies, Added, shade, stop_of, Ask, Tell, EndsBlank, EndsBlock}
+use Rattle.std.proofs.Common.{◌+◌, ◌*◌}
+use Rattle.filling.specs.Steps.{cells_to}
 use Rattle.filling.proofs.+fill_matrix_fill_matrix_blank_fill_matrix_color_solve_block.Given as goal
 
 abbrev pub decreases-fill_matrix : goal.decreases-fill_matrix

@@ -2,9 +2,6 @@
 use borrow.Author.Rules.{rules}
 use mathlib.Core.Path.{◌≡◌}
 use native.Mathlib.Omega.{arith}
-use lib.ListN.{length}
-use Prim.Native.Nat.{◌-◌, ◌≤◌}
-use Rattle.filling.specs.Steps.{Added}
 use Rattle.filling.proofs.Added.{added_none, added_right}
 use Rattle.filling.proofs.add_all.Goals as goal
 

@@ -1,11 +1,7 @@
 -- `add_all` meets its contract. The invariant: the colour is added to the cells passed.
-use borrow.Author.Rules.{rules}
-use mathlib.Core.Path.{◌≡◌}
-use native.Mathlib.Omega.{arith}
 use lib.ListN.{length}
 use Prim.Native.Nat.{◌-◌, ◌≤◌}
 use Rattle.filling.specs.Steps.{Added}
-use Rattle.filling.proofs.Added.{added_none, added_right}
 use Rattle.filling.proofs.add_all.Given as goal
 
 abbrev pub invariant-loop-i : goal.invariant-loop-i

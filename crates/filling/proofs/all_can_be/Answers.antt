@@ -1,12 +1,9 @@
 -- `all_can_be` meets its contract. The invariant: the cells passed can take the colour.
 use borrow.Author.Rules.{rules}
-use borrow.Author.Tests.{not-true, not-false}
 use mathlib.Core.Path.{◌≡◌}
 use mathlib.Core.Bool.{true≢false, false≢true}
 use native.Mathlib.Omega.{arith}
-use Prim.Native.Nat.{◌-◌, ◌≤◌}
 use Rattle.rules.proofs.Tests.{below?}
-use Rattle.filling.specs.Filling.{held}
 use Rattle.filling.specs.Steps.{CanShow}
 use Rattle.filling.proofs.Fillings.{told}
 use Rattle.filling.proofs.all_can_be.Goals as goal

@@ -7,7 +7,6 @@ use mir.Syntax.{w64}
 use mir.Val.{to_z, of_z}
 use mir.ValLaws.{to_z_pos, to_z-of_z}
 use Rattle.filling.proofs.Ints.{pos_sub, one_more, sub-fits}
-use borrow.Author.Rules.{rules}
 use Rattle.filling.proofs.block_start.Goals as goal
 
 module _ (a b : ℕ) (ha : a < 2 ^ 62) (hb : b < 2 ^ 62) where

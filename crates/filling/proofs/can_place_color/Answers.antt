@@ -1,5 +1,5 @@
 -- `can_place_color` meets its contract.
-use borrow.Author.Tests.{lt-ltb, le-ltb, not-true, not-false}
+use borrow.Author.Tests.{lt-ltb, le-ltb}
 use mathlib.Core.Path.{◌≡◌}
 use mathlib.Core.Bool.{Bool, true, false, false≢true}
 use native.Mathlib.Omega.{arith}
@@ -12,7 +12,6 @@ use Rattle.filling.specs.Filling.{Line}
 use Rattle.filling.specs.Steps.{Decides, CanShow, Lies, shade, stop_of}
 use Rattle.filling.proofs.Ints.{natural, negative, cast, cast_fits}
 use Rattle.filling.proofs.Fillings.{told}
-use borrow.Author.Rules.{rules}
 use Rattle.filling.proofs.can_place_color.Goals as goal
 
 module _ (L : Line) (z : ℤ) (position colour : ℕ) where

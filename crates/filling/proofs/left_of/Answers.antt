@@ -7,7 +7,6 @@ use mir.Syntax.{w64}
 use mir.Val.{to_z}
 use mir.ValLaws.{to_z_pos, to_z-of_z}
 use Rattle.filling.proofs.Ints.{pos_sub, sub-fits, cells_left}
-use borrow.Author.Rules.{rules}
 use Rattle.filling.proofs.left_of.Goals as goal
 
 before : (a : ℕ) → a < 2 ^ 62 → to_z w64 a -ℤ pos 1 ≡ sub_ℕ a 1

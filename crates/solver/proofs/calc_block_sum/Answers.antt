@@ -1,12 +1,10 @@
 -- `calc_block_sum` meets its contract: the sums of the blocks passed are written.
-use Prim.Native.Nat.{◌+◌, ◌-◌, ◌≤◌, ◌<◌}
+use Prim.Native.Nat.{◌+◌, ◌<◌}
 use mathlib.Core.Path.{◌≡◌, ◌∙◌, ap}
 use mathlib.Core.Bool.{true≢false, false≢true, cond}
 use native.Mathlib.Omega.{arith}
-use lib.ListN.{length}
 use Rattle.filling.specs.Filling.{held}
-use Rattle.solver.proofs.Stored.{Summing, summing_start, summing_more, size_same, end_space, space_mono}
-use borrow.Author.Rules.{rules}
+use Rattle.solver.proofs.Stored.{summing_start, summing_more, size_same, end_space, space_mono}
 use Rattle.solver.proofs.calc_block_sum.Goals as goal
 
 pub loop-b-init : goal.loop-b-init

@@ -1,11 +1,9 @@
 -- `clear` meets its contract: the bytes passed are 0.
-use Prim.Native.Nat.{◌-◌, ◌≤◌}
 use mathlib.Core.Path.{◌≡◌, refl, ◌∙◌}
-use lib.ListN.{length, length-set}
+use lib.ListN.{length-set}
 use lib.Seq.{get_or-set_same, get_or-set_other}
 use Rattle.rules.proofs.Tests.{below?}
 use Rattle.solver.specs.Steps.{Cleared}
-use borrow.Author.Rules.{rules}
 use native.Mathlib.Omega.{arith}
 use Rattle.solver.proofs.clear.Goals as goal
 

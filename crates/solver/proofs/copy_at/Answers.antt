@@ -1,11 +1,10 @@
 -- `copy_at` meets its contract: what is left to copy gives the whole.
-use Prim.Native.Nat.{◌+◌, ◌-◌, ◌≤◌}
+use Prim.Native.Nat.{◌+◌}
 use mathlib.Core.Path.{◌≡◌}
 use native.Mathlib.Nat.{add-zero}
-use lib.ListN.{length, drop, drop_of_length-le}
-use Rattle.loops.proofs.Going.{Going, going_start, going_put, going_done}
+use lib.ListN.{drop_of_length-le}
+use Rattle.loops.proofs.Going.{going_start, going_put, going_done}
 use Rattle.loops.proofs.Stores.{drop_step}
-use borrow.Author.Rules.{rules}
 use native.Mathlib.Omega.{arith}
 use Rattle.solver.proofs.copy_at.Goals as goal
 

@@ -4,7 +4,6 @@ use native.Mathlib.Omega.{arith}
 use lib.ListN.{length}
 use lib.Seq.{length-sets}
 use Rattle.solver.proofs.Stored.{holds}
-use borrow.Author.Rules.{rules}
 use Rattle.solver.proofs.hold_blocks.Goals as goal
 
 pub copy_at-requires-2 : goal.copy_at-requires-2

@@ -1,11 +1,9 @@
 -- `try_solve` meets its contract: the line is held, and the solver's answer is the paper's.
-use borrow.Author.Tests.{not-true, not-false}
 use mathlib.Core.Path.{◌≡◌, refl, ap}
 use native.Mathlib.Omega.{arith}
 use Prim.Native.Nat.{ℕ, ◌+◌, ◌-◌}
 use lib.ListN.{length, length-replicate}
 use Rattle.solver.proofs.Whole.{summable, over_told, asked, solver_told}
-use borrow.Author.Rules.{rules}
 use Rattle.solver.proofs.try_solve.Goals as goal
 
 pub calc_block_sum-requires : goal.calc_block_sum-requires

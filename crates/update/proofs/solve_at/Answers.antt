@@ -6,7 +6,6 @@ use Rattle.rules.specs.Board.{line_of, column}
 use Rattle.rules.proofs.Boards.{length_line}
 use Rattle.grid.proofs.Rows.{row_in, row_line, column_copied}
 use Rattle.update.proofs.Updating.{solvable, roomy_cells, attempted_line}
-use borrow.Author.Rules.{rules}
 use Rattle.update.proofs.solve_at.Goals as goal
 use Rattle.update.proofs.solve_at.Goals.{After-copy_column, After-row, In-Column, In-Row}
 

@@ -1,10 +1,8 @@
 -- `solve_cells` meets its contract.
 use mathlib.Core.Path.{sym, ap, ◌∙◌}
-use borrow.Author.Tests.{not-true, not-false}
 use Rattle.rules.proofs.Tests.{true_not_false}
 use Rattle.solver.specs.Steps.{outcome}
 use Rattle.update.proofs.Updating.{pushable}
-use borrow.Author.Rules.{rules}
 use Rattle.update.proofs.solve_cells.Goals as goal
 
 pub returns-then-not-solve_legal : goal.returns-then-not-solve_legal

@@ -3,7 +3,6 @@ use mathlib.Core.Path.{refl, sym}
 use borrow.Author.Tests.{not-true, not-false}
 use Rattle.rules.proofs.Tests.{true_not_false}
 use Rattle.update.proofs.Updating.{parts_asked, tried, refuses, storable, moves}
-use borrow.Author.Rules.{rules}
 use Rattle.update.proofs.update_line.Goals as goal
 
 pub line_part-sizes-requires : goal.line_part-sizes-requires

@@ -1,7 +1,6 @@
 -- `binary::solve` meets its contract: the line is judged, and then solved.
 use mathlib.Core.Path.{sym, ◌∙◌}
 use Rattle.line.proofs.Told.{binary_ready, solves_refused, solves_done, solves_none}
-use borrow.Author.Rules.{rules}
 use Rattle.line.proofs.binary.solve.Goals as goal
 
 pub solve_legal-requires : goal.solve_legal-requires

@@ -1,5 +1,4 @@
 -- `binary::solve_legal` meets its contract: the cells' sets are held, and what the solver finds is read back.
-use borrow.Author.Tests.{not-true, not-false}
 use mathlib.Core.Path.{sym}
 use native.Mathlib.Omega.{arith}
 use lib.ListN.{length, length-map}
@@ -7,7 +6,6 @@ use mathlib.Core.List.{map}
 use Rattle.rules.specs.Binary.{set_by}
 use Rattle.rules.proofs.Blocks.{blacks_length}
 use Rattle.line.proofs.Told.{few_black, black_part, sets_ready, line_solvable, line_told, binary_told, works_none, works_some}
-use borrow.Author.Rules.{rules}
 use Rattle.line.proofs.binary.solve_legal.Goals as goal
 
 pub hold_sets-requires : goal.hold_sets-requires

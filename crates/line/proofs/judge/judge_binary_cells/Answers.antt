@@ -3,7 +3,6 @@ use mathlib.Core.Path.{sym, ◌∙◌}
 use Rattle.rules.specs.Block.{binary}
 use Rattle.rules.specs.Refusal.{block_rules, cell_rules}
 use Rattle.rules.proofs.Verdicts.{append_bad, append_fine}
-use borrow.Author.Rules.{rules}
 use Rattle.line.proofs.judge.judge_binary_cells.Goals as goal
 
 pub returns-then-any_above : goal.returns-then-any_above

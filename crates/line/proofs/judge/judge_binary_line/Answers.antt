@@ -6,7 +6,6 @@ use Rattle.rules.specs.Block.{binary}
 use Rattle.rules.specs.Refusal.{verdict, length_rules, block_rules, cell_rules}
 use Rattle.rules.proofs.Verdicts.{append_bad, append_fine}
 use Rattle.line.specs.Calls.{room_for}
-use borrow.Author.Rules.{rules}
 use Rattle.line.proofs.judge.judge_binary_line.Goals as goal
 
 pub returns-in-Bad : goal.returns-in-Bad

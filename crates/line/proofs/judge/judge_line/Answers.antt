@@ -1,11 +1,9 @@
 -- `judge::judge_line` meets its contract: the length is judged, and then lists and blocks.
 use mathlib.Core.Path.{sym, ap, ◌∙◌}
-use lib.ListN.{length}
 use Rattle.rules.specs.Block.{coloured}
 use Rattle.rules.specs.Refusal.{verdict, length_rules, block_rules}
 use Rattle.rules.proofs.Verdicts.{append_bad, append_fine}
 use Rattle.line.specs.Calls.{room_for}
-use borrow.Author.Rules.{rules}
 use Rattle.line.proofs.judge.judge_line.Goals as goal
 
 pub returns-in-Bad : goal.returns-in-Bad

@@ -1,11 +1,9 @@
 -- `multicolor::copy_out` meets its contract: what is left to copy gives the whole.
-use Prim.Native.Nat.{◌-◌, ◌≤◌}
 use mathlib.Core.Path.{◌∙◌}
-use lib.ListN.{length, take, drop}
+use lib.ListN.{length, take}
 use lib.Seq.{length-take-le}
-use Rattle.loops.proofs.Going.{Going, going_start, going_put, going_done}
+use Rattle.loops.proofs.Going.{going_start, going_put, going_done}
 use Rattle.loops.proofs.Stores.{sets_whole, take_step, take_end}
-use borrow.Author.Rules.{rules}
 use native.Mathlib.Omega.{arith}
 use Rattle.line.proofs.multicolor.copy_out.Goals as goal
 

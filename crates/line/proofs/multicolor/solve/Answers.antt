@@ -2,7 +2,6 @@
 use mathlib.Core.Path.{sym, ◌∙◌}
 use Rattle.rules.specs.Block.{coloured}
 use Rattle.line.proofs.Told.{line_ready, solves_refused, solves_done, solves_none}
-use borrow.Author.Rules.{rules}
 use Rattle.line.proofs.multicolor.solve.Goals as goal
 
 pub solve_legal-requires : goal.solve_legal-requires

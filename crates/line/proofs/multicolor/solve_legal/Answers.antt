@@ -1,9 +1,7 @@
 -- `multicolor::solve_legal` meets its contract: the cells are held, and what the solver finds is copied.
-use borrow.Author.Tests.{not-true, not-false}
 use mathlib.Core.Path.{refl}
 use native.Mathlib.Omega.{arith}
 use Rattle.line.proofs.Told.{line_solvable, line_told, works_none, works_some}
-use borrow.Author.Rules.{rules}
 use Rattle.line.proofs.multicolor.solve_legal.Goals as goal
 
 pub copy_at-requires : goal.copy_at-requires

@@ -2,7 +2,6 @@
 use lib.Seq.{length-take-le}
 use mathlib.Core.Path.{sym}
 use Rattle.propagation.proofs.Told.{rows_few, columns_few, black_judged, black_ended}
-use borrow.Author.Rules.{rules}
 use Rattle.propagation.proofs.binary.run_black.Goals as goal
 
 pub slice_bounds-run_judged-end : goal.slice_bounds-run_judged-end

@@ -7,7 +7,6 @@ use Rattle.rules.specs.declared.Verdict.TheVariants.{Fine}
 use Rattle.propagation.specs.Calls.{binary_run_rules}
 use Rattle.propagation.proofs.Told.{judged_binary, ran_refused, ran_ended}
 use Rattle.run.proofs.Started.{told_fits}
-use borrow.Author.Rules.{rules}
 use Rattle.propagation.proofs.binary.run_from.Goals as goal
 use Rattle.propagation.proofs.binary.run_from.Goals.{In-Fine, Start}
 

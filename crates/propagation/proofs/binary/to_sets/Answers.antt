@@ -1,10 +1,6 @@
 -- `binary::to_sets` meets its contract: the numbers before i are mapped.
-use Prim.Native.Nat.{◌-◌}
-use lib.ListN.{length}
 use native.Mathlib.Omega.{arith}
-use Rattle.rules.specs.Binary.{set_by}
-use Rattle.propagation.proofs.Cells.{Mapping, map_start, map_step, map_end}
-use borrow.Author.Rules.{rules}
+use Rattle.propagation.proofs.Cells.{map_start, map_step, map_end}
 use Rattle.propagation.proofs.binary.to_sets.Goals as goal
 
 pub loop-i-init : goal.loop-i-init

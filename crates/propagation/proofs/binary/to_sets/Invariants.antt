@@ -1,10 +1,8 @@
 -- `binary::to_sets` meets its contract: the numbers before i are mapped.
 use Prim.Native.Nat.{◌-◌}
 use lib.ListN.{length}
-use native.Mathlib.Omega.{arith}
 use Rattle.rules.specs.Binary.{set_by}
-use Rattle.propagation.proofs.Cells.{Mapping, map_start, map_step, map_end}
-use borrow.Author.Rules.{rules}
+use Rattle.propagation.proofs.Cells.{Mapping}
 use Rattle.propagation.proofs.binary.to_sets.Given as goal
 
 abbrev pub invariant-loop-i : goal.invariant-loop-i

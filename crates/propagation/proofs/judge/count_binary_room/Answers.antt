@@ -1,14 +1,12 @@
 -- `judge::count_binary_room` meets its contract: the sum is the room number of the cells before i.
-use Prim.Native.Nat.{◌+◌, ◌-◌, ◌*◌, ◌≤◌}
 use mathlib.Core.List.{map}
-use mathlib.Core.Path.{◌≡◌, ap}
+use mathlib.Core.Path.{ap}
 use native.Mathlib.Omega.{arith}
 use lib.Count.{ones}
-use lib.ListN.{length, drop, drop_of_length-le}
+use lib.ListN.{drop_of_length-le}
 use Rattle.rules.specs.Binary.{set_by}
 use Rattle.rules.specs.Run.{room}
 use Rattle.propagation.proofs.Cells.{room_binary}
-use borrow.Author.Rules.{rules}
 use Rattle.propagation.proofs.judge.count_binary_room.Goals as goal
 
 pub loop-i-init : goal.loop-i-init

@@ -1,14 +1,10 @@
 -- `judge::count_binary_room` meets its contract: the sum is the room number of the cells before i.
 use Prim.Native.Nat.{◌+◌, ◌-◌, ◌*◌, ◌≤◌}
 use mathlib.Core.List.{map}
-use mathlib.Core.Path.{◌≡◌, ap}
-use native.Mathlib.Omega.{arith}
-use lib.Count.{ones}
-use lib.ListN.{length, drop, drop_of_length-le}
+use mathlib.Core.Path.{◌≡◌}
+use lib.ListN.{length, drop}
 use Rattle.rules.specs.Binary.{set_by}
 use Rattle.rules.specs.Run.{room}
-use Rattle.propagation.proofs.Cells.{room_binary}
-use borrow.Author.Rules.{rules}
 use Rattle.propagation.proofs.judge.count_binary_room.Given as goal
 
 abbrev pub invariant-loop-i : goal.invariant-loop-i

@@ -1,11 +1,9 @@
 -- `judge::count_room` meets its contract: the sum is the room number of the cells before i.
-use Prim.Native.Nat.{◌+◌, ◌-◌, ◌*◌, ◌≤◌}
-use mathlib.Core.Path.{◌≡◌, ap}
+use mathlib.Core.Path.{ap}
 use native.Mathlib.Omega.{arith}
-use lib.ListN.{length, drop, drop_of_length-le}
+use lib.ListN.{drop_of_length-le}
 use Rattle.rules.specs.Run.{room}
 use Rattle.propagation.proofs.Cells.{room_cell}
-use borrow.Author.Rules.{rules}
 use Rattle.propagation.proofs.judge.count_room.Goals as goal
 
 pub loop-i-init : goal.loop-i-init

@@ -1,6 +1,5 @@
 -- `judge::in_grid` meets its contract, by its tests.
 use borrow.Author.Tests.{lt-ltb, le-ltb}
-use borrow.Author.Rules.{rules}
 use Rattle.propagation.proofs.judge.in_grid.Goals as goal
 
 pub returns-then-x-width : goal.returns-then-x-width

@@ -7,7 +7,6 @@ use Rattle.rules.specs.Refusal.{verdict}
 use Rattle.rules.specs.declared.Verdict.TheVariants.{Fine}
 use Rattle.propagation.specs.Calls.{end_rules}
 use Rattle.propagation.proofs.Told.{cells_few, run_bad, run_fine}
-use borrow.Author.Rules.{rules}
 use Rattle.propagation.proofs.judge.judge.Goals as goal
 use Rattle.propagation.proofs.judge.judge.Goals.{In-Fine, Start}
 

@@ -7,7 +7,6 @@ use Rattle.rules.specs.Refusal.{verdict}
 use Rattle.rules.specs.declared.Verdict.TheVariants.{Fine}
 use Rattle.propagation.specs.Calls.{end_rules}
 use Rattle.propagation.proofs.Told.{cells_few, binary_bad, binary_cell, binary_fine}
-use borrow.Author.Rules.{rules}
 use Rattle.propagation.proofs.judge.judge_binary.Goals as goal
 use Rattle.propagation.proofs.judge.judge_binary.Goals.{In-Fine, Start}
 

@@ -1,7 +1,6 @@
 -- `judge::judge_end` meets its contract, by its tests.
 use mathlib.Core.Path.{sym, ◌∙◌}
-use borrow.Author.Tests.{not-true, not-false, lt-ltb, le-ltb}
-use borrow.Author.Rules.{rules}
+use borrow.Author.Tests.{not-false, lt-ltb, le-ltb}
 use mathlib.Core.Path.{ap}
 use mathlib.Core.Bool.{not}
 use Rattle.propagation.proofs.judge.judge_end.Goals as goal

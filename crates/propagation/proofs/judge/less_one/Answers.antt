@@ -1,7 +1,6 @@
 -- `judge::less_one` meets its contract: a number of 32 bits has at most 32 colours.
 use native.Mathlib.Omega.{arith}
 use lib.Count.{ones-le}
-use borrow.Author.Rules.{rules}
 use Rattle.propagation.proofs.judge.less_one.Goals as goal
 
 pub overflow_cast-result : goal.overflow_cast-result

@@ -1,16 +1,10 @@
 -- `jobs::run_jobs` meets its contract: what is left to run gives the whole.
-use Prim.Native.Nat.{suc, ◌+◌, ◌-◌, ◌≤◌}
+use Prim.Native.Nat.{◌+◌}
 use lib.ListN.{length}
-use lib.Seq.{length-take-le, length_front}
-use mathlib.Core.Path.{◌≡◌, refl, sym, ◌∙◌}
-use native.Mathlib.Omega.{arith}
-use borrow.Author.Tests.{not-true, not-false}
+use mathlib.Core.Path.{◌≡◌}
 use Rattle.rules.specs.Run.{room}
 use Rattle.rules.specs.Card.{card_of}
-use Rattle.rules.specs.Refusal.{stack_size}
-use Rattle.grid.proofs.Storing.{len_most}
-use Rattle.run.proofs.Running.{Running, run_starts, long, few, run_stops, run_ready, run_refuses, run_less, run_moves}
-use borrow.Author.Rules.{rules}
+use Rattle.run.proofs.Running.{Running}
 use Rattle.run.proofs.jobs.run_jobs.Given as goal
 
 abbrev pub invariant-loop-left : goal.invariant-loop-left

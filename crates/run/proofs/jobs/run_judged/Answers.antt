@@ -2,7 +2,6 @@
 use native.Mathlib.Omega.{arith}
 use Rattle.rules.specs.Card.{Card, card_of}
 use Rattle.run.proofs.Started.{begins, ended}
-use borrow.Author.Rules.{rules}
 use Rattle.run.proofs.jobs.run_judged.Goals as goal
 use Rattle.run.proofs.jobs.run_judged.Goals.{Start}
 

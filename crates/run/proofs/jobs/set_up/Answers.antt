@@ -1,6 +1,5 @@
 -- `jobs::set_up` meets its contract.
 use native.Mathlib.Omega.{arith}
-use borrow.Author.Rules.{rules}
 use Rattle.run.proofs.jobs.set_up.Goals as goal
 
 pub point_order-requires : goal.point_order-requires
