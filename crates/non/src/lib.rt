@@ -23,7 +23,7 @@ use pieces::{Found, Next, next_line, open};
 use words::is_digit;
 
 // What a file holds: a card; or a fault in a line of it; or one that shows at its end, after that line; or nothing that can be read.
-#[derive(Drop)]
+#[derive(Clone, Copy)]
 pub enum Outcome {
     Card,
     BadLine { fault: Fault, line: u32 },
@@ -31,7 +31,7 @@ pub enum Outcome {
     Unreadable,
 }
 
-#[derive(Drop)]
+#[derive(Clone, Copy)]
 enum Step {
     Going,
     Ended(Outcome),

@@ -3,7 +3,7 @@
 use crate::words::{Class, belongs};
 
 // How far reading is: the bytes of the buffer from `at` to `filled` are still to be used. `line` counts the lines before, up to 2^32 - 1.
-#[derive(Drop)]
+#[derive(Clone, Copy)]
 pub(crate) struct Place {
     file: i32,
     at: usize,
@@ -16,7 +16,7 @@ pub(crate) struct Place {
 // A line as far as it was read: how many bytes of a byte order mark are all of the file so far, or 3 where there was anything else; how many
 // bytes were kept; whether the last of them is of a word; whether blanks stand after it; whether a comment has begun; whether a byte found
 // no room.
-#[derive(Drop)]
+#[derive(Clone, Copy)]
 struct Kept {
     mark: u8,
     length: usize,
@@ -27,7 +27,7 @@ struct Kept {
 }
 
 // What comes next in a file: a line, a line that is a comment alone, the end, or nothing that can be read.
-#[derive(Drop)]
+#[derive(Clone, Copy)]
 pub(crate) enum Found {
     Line,
     Comment,
@@ -36,7 +36,7 @@ pub(crate) enum Found {
 }
 
 // The first `length` bytes of the lent text are the line's. `cut` tells that it has more.
-#[derive(Drop)]
+#[derive(Clone, Copy)]
 pub(crate) struct Next {
     pub(crate) found: Found,
     pub(crate) length: usize,

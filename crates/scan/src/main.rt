@@ -17,26 +17,27 @@ fn scan_file(name: &[u8], file: i32) {
     let mut text = io::large_buffer();
     let reading = read_text(file, &mut text);
     if reading.failed {
-        write_fault(name, b"the file cannot be read\n");
+        write_fault(rt, name, b"the file cannot be read\n")?;
         return;
     }
     let length = reading.length;
-    scan_text(name, &text[..length], reading.whole);
+    scan_text(rt, name, &text[..length], reading.whole)?;
 }
 
 // Why a file was not opened.
-fn write_unopened(name: &[u8]) {
+fn write_unopened(rt: &impl Print, name: &[u8]) -> io::Result<()> {
     match os::errno() {
-        libc::ENOENT => write_fault(name, b"there is no such file\n"),
-        libc::EACCES => write_fault(name, b"the file may not be read\n"),
-        _ => write_fault(name, b"the file cannot be opened\n"),
+        libc::ENOENT => write_fault(rt, name, b"there is no such file\n")?,
+        libc::EACCES => write_fault(rt, name, b"the file may not be read\n")?,
+        _ => write_fault(rt, name, b"the file cannot be opened\n")?,
     }
+    Ok(())
 }
 
 fn scan_path(path: &[u8]) {
     let file = os::open_read(path);
     if file < 0 {
-        write_unopened(path);
+        write_unopened(rt, path)?;
         return;
     }
     scan_file(path, file);

@@ -16,55 +16,57 @@ use writing::{write_number, write_text};
 // The name of standard input.
 const INPUT: [u8; 14] = *b"standard input";
 
-fn write_bad(name: &[u8], what: &[u8]) {
-    write_text(b"bad card, ");
-    write_text(name);
-    write_text(what);
+fn write_bad(rt: &impl Print, name: &[u8], what: &[u8]) -> io::Result<()> {
+    write_text(rt, b"bad card, ")?;
+    write_text(rt, name)?;
+    write_text(rt, what)
 }
 
-fn write_bad_at(name: &[u8], place: &[u8], line: u32, fault: Fault) {
-    write_bad(name, place);
-    write_number(line as usize);
-    write_text(b": ");
-    write_fault(fault);
+fn write_bad_at(rt: &impl Print, name: &[u8], place: &[u8], line: u32, fault: Fault) -> io::Result<()> {
+    write_bad(rt, name, place)?;
+    write_number(rt, line as usize)?;
+    write_text(rt, b": ")?;
+    write_fault(rt, fault)
 }
 
 // Solves a card. One that the reader takes and the run refuses would be told with the run's number.
-fn solve_card(name: &[u8], card: &[u32; ROOM]) {
-    let refusal = solving::solve_card(card);
+fn solve_card(rt: &impl Print, name: &[u8], card: &[u32; ROOM]) -> io::Result<()> {
+    let refusal = solving::solve_card(rt, card)?;
     if refusal > 0 {
-        write_bad(name, b": the run refuses it with ");
-        write_number(refusal as usize);
-        write_text(b"\n");
+        write_bad(rt, name, b": the run refuses it with ")?;
+        write_number(rt, refusal as usize)?;
+        write_text(rt, b"\n")?;
     }
+    Ok(())
 }
 
 fn solve_file(name: &[u8], file: i32) {
     let mut card = make();
     let outcome = non::read_card(file, &mut card);
     match outcome {
-        Outcome::Card => solve_card(name, &card),
-        Outcome::BadLine { fault, line } => write_bad_at(name, b", line ", line, fault),
+        Outcome::Card => solve_card(rt, name, &card)?,
+        Outcome::BadLine { fault, line } => write_bad_at(rt, name, b", line ", line, fault)?,
         Outcome::BadEnd { fault, line } => {
-            write_bad_at(name, b", end of the file after line ", line, fault)
+            write_bad_at(rt, name, b", end of the file after line ", line, fault)
         }
-        Outcome::Unreadable => write_bad(name, b": the file cannot be read\n"),
+        Outcome::Unreadable => write_bad(rt, name, b": the file cannot be read\n")?,
     }
 }
 
 // Why a file was not opened.
-fn write_unopened(name: &[u8]) {
+fn write_unopened(rt: &impl Print, name: &[u8]) -> io::Result<()> {
     match os::errno() {
-        libc::ENOENT => write_bad(name, b": there is no such file\n"),
-        libc::EACCES => write_bad(name, b": the file may not be read\n"),
-        _ => write_bad(name, b": the file cannot be opened\n"),
+        libc::ENOENT => write_bad(rt, name, b": there is no such file\n")?,
+        libc::EACCES => write_bad(rt, name, b": the file may not be read\n")?,
+        _ => write_bad(rt, name, b": the file cannot be opened\n")?,
     }
+    Ok(())
 }
 
 fn solve_path(path: &[u8]) {
     let file = os::open_read(path);
     if file < 0 {
-        write_unopened(path);
+        write_unopened(rt, path)?;
         return;
     }
     solve_file(path, file);
@@ -79,20 +81,21 @@ fn is_input(path: &[u8]) -> bool {
 }
 
 // Where there are several cards, the name of each stands above its answer.
-fn write_name(name: &[u8], several: bool) {
+fn write_name(rt: &impl Print, name: &[u8], several: bool) -> io::Result<()> {
     if several {
-        write_text(b"== ");
-        write_text(name);
-        write_text(b" ==\n");
+        write_text(rt, b"== ")?;
+        write_text(rt, name)?;
+        write_text(rt, b" ==\n")?;
     }
+    Ok(())
 }
 
 fn solve_named(path: &[u8], several: bool) {
     if is_input(path) {
-        write_name(&INPUT, several);
+        write_name(rt, &INPUT, several)?;
         solve_file(&INPUT, STDIN_FILENO);
     } else {
-        write_name(path, several);
+        write_name(rt, path, several)?;
         solve_path(path);
     }
 }
