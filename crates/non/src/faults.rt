@@ -1,5 +1,5 @@
 // What can be wrong with a card: numbers, and a text for each. In brackets stands document 01's number, where it has one.
-use libc::STDOUT_FILENO;
+use std::io;
 
 // 0 where nothing is wrong.
 pub type Fault = u32;
@@ -76,7 +76,7 @@ fn write_line(rt: &impl Print, texts: &[u8], number: u32) -> io::Result<()> {
 fn write_part(rt: &impl Print, texts: &[u8], from: usize, end: usize) -> io::Result<()> {
     if from <= end {
         if end <= texts.len() {
-            io::write_all(STDOUT_FILENO, &texts[from..end]);
+            return rt.write_all(&texts[from..end]);
         }
     }
     Ok(())
@@ -84,7 +84,8 @@ fn write_part(rt: &impl Print, texts: &[u8], from: usize, end: usize) -> io::Res
 
 // Writes what is wrong, in the order of the numbers above.
 pub fn write_fault(rt: &impl Print, fault: Fault) -> io::Result<()> {
-    write_line(rt, 
+    write_line(
+        rt,
         b"nothing is wrong\n\
           this text is not understood\n\
           a number is missing\n\
