@@ -6,6 +6,7 @@ use crate::writing::write_text;
 use line::binary::set_of;
 use non::layout::ROOM;
 use non::palette::{BITS, word_at};
+use std::io;
 
 // The word of an open cell, `?`.
 const OPEN: u64 = 63;
@@ -104,12 +105,13 @@ fn lay_row(
 
 fn write_first(rt: &impl Print, text: &[u8], count: usize) -> io::Result<()> {
     if count <= text.len() {
-        write_text(rt, &text[0..count])?;
+        return write_text(rt, &text[0..count]);
     }
     Ok(())
 }
 
-fn write_row(rt: &impl Print, 
+fn write_row(
+    rt: &impl Print,
     cells: &[u32],
     coloured: bool,
     card: &[u32; ROOM],
@@ -120,7 +122,13 @@ fn write_row(rt: &impl Print,
     write_first(rt, out, count)
 }
 
-pub(crate) fn write_board(rt: &impl Print, grid: &[u32], width: usize, coloured: bool, card: &[u32; ROOM]) -> io::Result<()> {
+pub(crate) fn write_board(
+    rt: &impl Print,
+    grid: &[u32],
+    width: usize,
+    coloured: bool,
+    card: &[u32; ROOM],
+) -> io::Result<()> {
     if width == 0 {
         return Ok(());
     }
@@ -128,7 +136,14 @@ pub(crate) fn write_board(rt: &impl Print, grid: &[u32], width: usize, coloured:
     let mut out = [0u8; 4096];
     let mut from = 0;
     while width <= grid.len() - from {
-        write_row(rt, &grid[from..from + width], coloured, card, largest, &mut out)?;
+        write_row(
+            rt,
+            &grid[from..from + width],
+            coloured,
+            card,
+            largest,
+            &mut out,
+        )?;
         from += width;
     }
     Ok(())

@@ -6,6 +6,7 @@ use non::palette::{BITS, BLACK, word_at};
 use propagation::{binary, multicolor};
 use rules::{LinePosition, refusal_number};
 use run::RunAnswer;
+use std::io;
 use std::num::wrapping_add_usize;
 
 // The room that a run asks for: a report in which 31 colours of each of 4,096 cells go, the memo, and the stack.
@@ -129,10 +130,14 @@ fn write_refusing(rt: &impl Print, name: &[u8], index: usize, place: u32) -> io:
 
 fn write_line(rt: &impl Print, line: LinePosition, card: &[u32; ROOM]) -> io::Result<()> {
     match line {
-        LinePosition::Row(y) => write_refusing(rt, b"row ", y.0, place_of(card, ROWS, y.0))?,
-        LinePosition::Column(x) => write_refusing(rt, b"column ", x.0, place_of(card, COLUMNS, x.0))?,
+        LinePosition::Row(y) => write_refusing(rt, b"row ", y.0, place_of(card, ROWS, y.0)),
+        LinePosition::Column(x) => write_refusing(
+            rt,
+            b"column ",
+            x.0,
+            place_of(card, COLUMNS, x.0),
+        ),
     }
-    Ok(())
 }
 
 fn write_open(rt: &impl Print, open: usize, cells: usize) -> io::Result<()> {
@@ -148,13 +153,24 @@ fn write_lines(rt: &impl Print, lines: usize) -> io::Result<()> {
 }
 
 // Shows the board, and counts its open cells.
-fn show_board(rt: &impl Print, card: &[u32; ROOM], coloured: bool, grid: &[u32]) -> io::Result<usize> {
+fn show_board(
+    rt: &impl Print,
+    card: &[u32; ROOM],
+    coloured: bool,
+    grid: &[u32],
+) -> io::Result<usize> {
     write_board(rt, grid, side_of(card, COLUMNS), coloured, card)?;
-    count_open(grid, coloured)
+    Ok(count_open(grid, coloured))
 }
 
 // Shows what a run answers. Nothing is shown where it refuses the card, and its number is told; else 0.
-fn show_answer(rt: &impl Print, answer: RunAnswer, card: &[u32; ROOM], coloured: bool, grid: &[u32]) -> io::Result<u32> {
+fn show_answer(
+    rt: &impl Print,
+    answer: RunAnswer,
+    card: &[u32; ROOM],
+    coloured: bool,
+    grid: &[u32],
+) -> io::Result<u32> {
     match answer {
         RunAnswer::Done { entries: _, lines } => {
             let open = show_board(rt, card, coloured, grid)?;
@@ -164,7 +180,7 @@ fn show_answer(rt: &impl Print, answer: RunAnswer, card: &[u32; ROOM], coloured:
                 write_open(rt, open, grid.len())?;
             }
             write_lines(rt, lines)?;
-            0
+            Ok(0)
         }
         RunAnswer::Unsolvable {
             line,
@@ -172,11 +188,12 @@ fn show_answer(rt: &impl Print, answer: RunAnswer, card: &[u32; ROOM], coloured:
             lines,
         } => {
             write_line(rt, line, card)?;
-            write_open(rt, show_board(rt, card, coloured, grid)?, grid.len())?;
+            let open = show_board(rt, card, coloured, grid)?;
+            write_open(rt, open, grid.len())?;
             write_lines(rt, lines)?;
-            0
+            Ok(0)
         }
-        RunAnswer::Refused(refusal) => refusal_number(refusal),
+        RunAnswer::Refused(refusal) => Ok(refusal_number(refusal)),
     }
 }
 
@@ -199,7 +216,12 @@ fn solve_grid(rt: &impl Print, card: &[u32; ROOM], grid: &mut [u32]) -> io::Resu
 }
 
 // Solves a card on the first cells of a grid.
-fn solve_first(rt: &impl Print, card: &[u32; ROOM], grid: &mut [u32], cells: usize) -> io::Result<u32> {
+fn solve_first(
+    rt: &impl Print,
+    card: &[u32; ROOM],
+    grid: &mut [u32],
+    cells: usize,
+) -> io::Result<u32> {
     if cells <= grid.len() {
         return solve_grid(rt, card, &mut grid[0..cells]);
     }

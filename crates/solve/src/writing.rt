@@ -1,12 +1,10 @@
-// Writes texts and numbers to standard output.
-use libc::STDOUT_FILENO;
+// Writes texts and numbers through the handle that a function is passed.
+use std::io;
 
 pub(crate) fn write_text(rt: &impl Print, text: &[u8]) -> io::Result<()> {
-    io::write_all(STDOUT_FILENO, text);
-    Ok(())
+    rt.write_all(text)
 }
 
 pub(crate) fn write_number(rt: &impl Print, number: usize) -> io::Result<()> {
-    io::print_decimal(STDOUT_FILENO, number as u64);
-    Ok(())
+    rt.print(number)
 }
