@@ -6,6 +6,7 @@ ghost use Rattle.scan.specs.Titles.{is_odd, title_byte};
 
 use crate::texts::count_through;
 use crate::writing::{write_byte, write_number, write_text};
+use std::io;
 
 // What could end a title or its line for who reads the card: a control byte, a quote, # or a backslash.
 fn is_odd(byte: u8) -> bool
@@ -53,7 +54,12 @@ fn write_side(rt: &impl Print, key: &[u8], side: usize) -> io::Result<()> {
     write_text(rt, b"\n")
 }
 
-pub(crate) fn write_heading(rt: &impl Print, path: &[u8], width: usize, height: usize) -> io::Result<()> {
+pub(crate) fn write_heading(
+    rt: &impl Print,
+    path: &[u8],
+    width: usize,
+    height: usize,
+) -> io::Result<()> {
     write_title(rt, path)?;
     write_side(rt, b"width ", width)?;
     write_side(rt, b"height ", height)
@@ -102,7 +108,13 @@ fn write_clues(rt: &impl Print, counts: &[u32], sizes: &[u32]) -> io::Result<()>
 }
 
 // A list of so many lines, with its heading.
-pub(crate) fn write_list(rt: &impl Print, heading: &[u8], lines: usize, counts: &[u32], sizes: &[u32]) -> io::Result<()>
+pub(crate) fn write_list(
+    rt: &impl Print,
+    heading: &[u8],
+    lines: usize,
+    counts: &[u32],
+    sizes: &[u32],
+) -> io::Result<()>
     requires { Lined lines counts.now sizes.now }
 {
     write_text(rt, heading)?;

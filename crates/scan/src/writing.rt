@@ -1,9 +1,8 @@
-// Writes texts and numbers to standard output.
-use libc::STDOUT_FILENO;
+// Writes texts and numbers through the handle that a function is passed.
+use std::io;
 
 pub(crate) fn write_text(rt: &impl Print, text: &[u8]) -> io::Result<()> {
-    io::write_all(STDOUT_FILENO, text);
-    Ok(())
+    rt.write_all(text)
 }
 
 pub(crate) fn write_byte(rt: &impl Print, byte: u8) -> io::Result<()> {
@@ -11,6 +10,5 @@ pub(crate) fn write_byte(rt: &impl Print, byte: u8) -> io::Result<()> {
 }
 
 pub(crate) fn write_number(rt: &impl Print, number: u64) -> io::Result<()> {
-    io::print_decimal(STDOUT_FILENO, number);
-    Ok(())
+    rt.print(number)
 }
