@@ -1,12 +1,16 @@
 // The device's calls by their numbers, for the programs that show and replay them, and the cards of runs: two sides, a point, the report's
 // room, a grid, and the clues of rows and columns. The six lists of clues stand one after the other in one list, and a call is lent its parts.
+#![tactic(auto)]
+
 pub mod calls;
 pub mod pictures;
 pub mod runs;
 
-ghost use Rattle.std.specs.Prelude.{◌≡◌, length};
-ghost use Rattle.io.specs.Counts.{IsPrefixLen};
+ghost use Rattle.std.specs.Prelude.{◌≡◌, length, IfOk};
+ghost use Rattle.vectors.specs.Counts.{IsPrefixLen};
 
+use std::io;
+use std::io::Read;
 use vectors::lists;
 use vectors::lists::Listed;
 use vectors::reader::{Reader, demand};
@@ -107,7 +111,13 @@ fn read_start<R: Read>(input: &mut R, buffer: &mut [u8], reader: Reader) -> io::
 }
 
 // Reads one list more into a list that holds `from` entries, and counts all.
-fn read_after<R: Read>(input: &mut R, buffer: &mut [u8], reader: Reader, from: usize, list: &mut [u32]) -> io::Result<Listed> {
+fn read_after<R: Read>(
+    input: &mut R,
+    buffer: &mut [u8],
+    reader: Reader,
+    from: usize,
+    list: &mut [u32],
+) -> io::Result<Listed> {
     let start = lists::within(from, list);
     let listed = lists::read(input, buffer, reader, &mut list[start..])?;
     let reader = listed.reader;
@@ -118,7 +128,13 @@ fn read_after<R: Read>(input: &mut R, buffer: &mut [u8], reader: Reader, from: u
 }
 
 // Reads the three lists of a direction after the first `from` entries.
-fn read_direction<R: Read>(input: &mut R, buffer: &mut [u8], reader: Reader, from: usize, clues: &mut [u32]) -> io::Result<Direction> {
+fn read_direction<R: Read>(
+    input: &mut R,
+    buffer: &mut [u8],
+    reader: Reader,
+    from: usize,
+    clues: &mut [u32],
+) -> io::Result<Direction> {
     let counts = read_after(input, buffer, reader, from, clues)?;
     let sizes = read_after(input, buffer, counts.reader, counts.count, clues)?;
     let colours = read_after(input, buffer, sizes.reader, sizes.count, clues)?;
@@ -132,7 +148,12 @@ fn read_direction<R: Read>(input: &mut R, buffer: &mut [u8], reader: Reader, fro
 }
 
 // Reads a card's numbers and its grid. The clues come next.
-pub fn read_board<R: Read>(input: &mut R, buffer: &mut [u8], reader: Reader, grid: &mut [u32]) -> io::Result<Board>
+pub fn read_board<R: Read>(
+    input: &mut R,
+    buffer: &mut [u8],
+    reader: Reader,
+    grid: &mut [u32],
+) -> io::Result<Board>
     ensures { IfOk result (λ r. IsPrefixLen r.cells grid.new) }
 {
     let start = read_start(input, buffer, reader)?;
@@ -146,7 +167,12 @@ pub fn read_board<R: Read>(input: &mut R, buffer: &mut [u8], reader: Reader, gri
     })
 }
 
-pub fn read_clues<R: Read>(input: &mut R, buffer: &mut [u8], reader: Reader, clues: &mut [u32]) -> io::Result<Clues> {
+pub fn read_clues<R: Read>(
+    input: &mut R,
+    buffer: &mut [u8],
+    reader: Reader,
+    clues: &mut [u32],
+) -> io::Result<Clues> {
     let rows = read_direction(input, buffer, reader, 0, clues)?;
     let columns = read_direction(input, buffer, rows.reader, rows.colours, clues)?;
     let reader = columns.reader;

@@ -1,11 +1,14 @@
 // Pictures as plain PBM: what a case of call 20, which reads one, and of call 21, which writes one, is given, and both calls with as much room
 // as the case says.
-ghost use Rattle.io.specs.Counts.{IsPrefixLen};
+ghost use Rattle.std.specs.Prelude.{IfOk};
+ghost use Rattle.vectors.specs.Counts.{IsPrefixLen};
 
 use crate::read_sides;
 use device::pictures::{sp_read_pbm, sp_write_pbm};
 use replies::count::CountReply;
 use replies::pictures::PbmReply;
+use std::io;
+use std::io::Read;
 use vectors::reader::{Reader, demand};
 use vectors::{bytes, lists};
 
@@ -28,7 +31,12 @@ pub struct Drawing {
 }
 
 // Reads a case of call 20: a room and a text.
-pub fn read_text<R: Read>(input: &mut R, buffer: &mut [u8], reader: Reader, text: &mut [u8]) -> io::Result<Text>
+pub fn read_text<R: Read>(
+    input: &mut R,
+    buffer: &mut [u8],
+    reader: Reader,
+    text: &mut [u8],
+) -> io::Result<Text>
     ensures { IfOk result (λ r. IsPrefixLen r.bytes text.new) }
 {
     let room = demand(input, buffer, reader, u64::MAX)?;
@@ -42,7 +50,12 @@ pub fn read_text<R: Read>(input: &mut R, buffer: &mut [u8], reader: Reader, text
 }
 
 // Reads a case of call 21: two sides, a room and codes.
-pub fn read_drawing<R: Read>(input: &mut R, buffer: &mut [u8], reader: Reader, codes: &mut [u32]) -> io::Result<Drawing>
+pub fn read_drawing<R: Read>(
+    input: &mut R,
+    buffer: &mut [u8],
+    reader: Reader,
+    codes: &mut [u32],
+) -> io::Result<Drawing>
     ensures { IfOk result (λ r. IsPrefixLen r.codes codes.new) }
 {
     let sides = read_sides(input, buffer, reader)?;

@@ -3,6 +3,7 @@ use replies::clues::CluesReply;
 use replies::count::CountReply;
 use replies::number::PositionsReply;
 use replies::pictures::PbmReply;
+use std::io;
 use vectors::lists::widen;
 use vectors::report::{write_number, write_text};
 

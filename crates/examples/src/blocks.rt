@@ -2,6 +2,8 @@
 use crate::answers::{room_at, write_count, write_positions};
 use cases::calls;
 use device::blocks::sp_color_ranges;
+use std::io;
+use std::io::Read;
 use vectors::lists;
 use vectors::reader::{Reader, demand};
 use vectors::report::{write_number, write_text};
@@ -9,20 +11,25 @@ use vectors::show::{write_left, write_left_wide, write_list};
 
 fn write_name(rt: &impl Print, call: u64) -> io::Result<()> {
     match call {
-        1 => write_text(rt, b"sp_partial_sums")?,
-        2 => write_text(rt, b"sp_block_starts")?,
-        3 => write_text(rt, b"sp_positions_number")?,
-        4 => write_text(rt, b"sp_color_ranges")?,
-        5 => write_text(rt, b"sp_description")?,
-        8 => write_text(rt, b"sp_binary_partial_sums")?,
-        9 => write_text(rt, b"sp_binary_block_starts")?,
-        10 => write_text(rt, b"sp_binary_positions_number")?,
-        _ => write_text(rt, b"sp_binary_description")?,
+        1 => write_text(rt, b"sp_partial_sums"),
+        2 => write_text(rt, b"sp_block_starts"),
+        3 => write_text(rt, b"sp_positions_number"),
+        4 => write_text(rt, b"sp_color_ranges"),
+        5 => write_text(rt, b"sp_description"),
+        8 => write_text(rt, b"sp_binary_partial_sums"),
+        9 => write_text(rt, b"sp_binary_block_starts"),
+        10 => write_text(rt, b"sp_binary_positions_number"),
+        _ => write_text(rt, b"sp_binary_description"),
     }
-    Ok(())
 }
 
-fn write_given(rt: &impl Print, call: u64, length: usize, sizes: &[u32], colours: &[u32]) -> io::Result<()> {
+fn write_given(
+    rt: &impl Print,
+    call: u64,
+    length: usize,
+    sizes: &[u32],
+    colours: &[u32],
+) -> io::Result<()> {
     write_name(rt, call)?;
     match call {
         3 | 4 | 10 => {
@@ -38,16 +45,22 @@ fn write_given(rt: &impl Print, call: u64, length: usize, sizes: &[u32], colours
     Ok(())
 }
 
-fn show_pack(rt: &impl Print, call: u64, sizes: &[u32], colours: &[u32], sums: &mut [u64]) -> io::Result<()> {
+fn show_pack(
+    rt: &impl Print,
+    call: u64,
+    sizes: &[u32],
+    colours: &[u32],
+    sums: &mut [u64],
+) -> io::Result<()> {
     write_count(rt, calls::pack(call, sizes, colours, sums))?;
     match call {
-        1 | 8 => write_left_wide(rt, b"; sums", sums)?,
-        _ => write_left_wide(rt, b"; starts", sums)?,
+        1 | 8 => write_left_wide(rt, b"; sums", sums),
+        _ => write_left_wide(rt, b"; starts", sums),
     }
-    Ok(())
 }
 
-fn show_ranges(rt: &impl Print, 
+fn show_ranges(
+    rt: &impl Print,
     length: usize,
     sizes: &[u32],
     colours: &[u32],
@@ -55,20 +68,27 @@ fn show_ranges(rt: &impl Print,
     out_from: &mut [u64],
     out_to: &mut [u64],
 ) -> io::Result<()> {
-    write_count(rt, sp_color_ranges(length, sizes, colours, out_colours, out_from, out_to))?;
+    write_count(
+        rt,
+        sp_color_ranges(length, sizes, colours, out_colours, out_from, out_to),
+    )?;
     write_left(rt, b"; out_colours", out_colours)?;
     write_left_wide(rt, b"; out_from", out_from)?;
     write_left_wide(rt, b"; out_to", out_to)
 }
 
-fn show_description(rt: &impl Print, 
+fn show_description(
+    rt: &impl Print,
     call: u64,
     sizes: &[u32],
     colours: &[u32],
     out_sizes: &mut [u32],
     out_colours: &mut [u32],
 ) -> io::Result<()> {
-    write_count(rt, calls::describe(call, sizes, colours, out_sizes, out_colours))?;
+    write_count(
+        rt,
+        calls::describe(call, sizes, colours, out_sizes, out_colours),
+    )?;
     write_left(rt, b"; out_sizes", out_sizes)?;
     if call == 5 {
         write_left(rt, b"; out_colours", out_colours)?;
@@ -77,20 +97,33 @@ fn show_description(rt: &impl Print,
 }
 
 // Lends as much room as the case says.
-fn lend_sums(rt: &impl Print, call: u64, sizes: &[u32], colours: &[u32], rooms: &[u32]) -> io::Result<()> {
+fn lend_sums(
+    rt: &impl Print,
+    call: u64,
+    sizes: &[u32],
+    colours: &[u32],
+    rooms: &[u32],
+) -> io::Result<()> {
     let mut sums = lists::make_filled_wide();
     let room = lists::within_wide(room_at(rooms, 0), &sums);
     show_pack(rt, call, sizes, colours, &mut sums[..room])
 }
 
-fn lend_ranges(rt: &impl Print, length: usize, sizes: &[u32], colours: &[u32], rooms: &[u32]) -> io::Result<()> {
+fn lend_ranges(
+    rt: &impl Print,
+    length: usize,
+    sizes: &[u32],
+    colours: &[u32],
+    rooms: &[u32],
+) -> io::Result<()> {
     let mut out_colours = lists::make_filled();
     let mut out_from = lists::make_filled_wide();
     let mut out_to = lists::make_filled_wide();
     let first = lists::within(room_at(rooms, 0), &out_colours);
     let second = lists::within_wide(room_at(rooms, 1), &out_from);
     let third = lists::within_wide(room_at(rooms, 2), &out_to);
-    show_ranges(rt, 
+    show_ranges(
+        rt,
         length,
         sizes,
         colours,
@@ -100,12 +133,19 @@ fn lend_ranges(rt: &impl Print, length: usize, sizes: &[u32], colours: &[u32], r
     )
 }
 
-fn lend_description(rt: &impl Print, call: u64, sizes: &[u32], colours: &[u32], rooms: &[u32]) -> io::Result<()> {
+fn lend_description(
+    rt: &impl Print,
+    call: u64,
+    sizes: &[u32],
+    colours: &[u32],
+    rooms: &[u32],
+) -> io::Result<()> {
     let mut out_sizes = lists::make_filled();
     let mut out_colours = lists::make_filled();
     let first = lists::within(room_at(rooms, 0), &out_sizes);
     let second = lists::within(room_at(rooms, 1), &out_colours);
-    show_description(rt, 
+    show_description(
+        rt,
         call,
         sizes,
         colours,
@@ -114,7 +154,14 @@ fn lend_description(rt: &impl Print, call: u64, sizes: &[u32], colours: &[u32], 
     )
 }
 
-fn show_case(rt: &impl Print, call: u64, length: usize, sizes: &[u32], colours: &[u32], rooms: &[u32]) -> io::Result<()> {
+fn show_case(
+    rt: &impl Print,
+    call: u64,
+    length: usize,
+    sizes: &[u32],
+    colours: &[u32],
+    rooms: &[u32],
+) -> io::Result<()> {
     write_given(rt, call, length, sizes, colours)?;
     match call {
         3 | 10 => write_positions(rt, calls::count_positions(call, length, sizes, colours))?,
@@ -125,7 +172,13 @@ fn show_case(rt: &impl Print, call: u64, length: usize, sizes: &[u32], colours: 
     write_text(rt, b"\n")
 }
 
-pub(crate) fn show<R: Read>(rt: &impl Print, call: u64, input: &mut R, buffer: &mut [u8], reader: Reader) -> io::Result<Reader> {
+pub(crate) fn show<R: Read>(
+    rt: &impl Print,
+    call: u64,
+    input: &mut R,
+    buffer: &mut [u8],
+    reader: Reader,
+) -> io::Result<Reader> {
     let mut sizes = lists::make();
     let mut colours = lists::make();
     let mut rooms = lists::make();
@@ -137,7 +190,8 @@ pub(crate) fn show<R: Read>(rt: &impl Print, call: u64, input: &mut R, buffer: &
     let first = pair.first;
     let second = pair.second;
     let third = listed.count;
-    show_case(rt, 
+    show_case(
+        rt,
         call,
         length.value as usize,
         &sizes[..first],

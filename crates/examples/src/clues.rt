@@ -1,6 +1,8 @@
 // Shows the calls for clues. A case has a width and a height (0 for a line), a blank code, codes, and the rooms of the lists to write.
 use crate::answers::{room_at, write_count, write_totals};
 use cases::calls;
+use std::io;
+use std::io::Read;
 use vectors::lists;
 use vectors::lists::{Picture, widen};
 use vectors::reader::Reader;
@@ -9,12 +11,11 @@ use vectors::show::{write_left, write_list};
 
 fn write_name(rt: &impl Print, call: u64) -> io::Result<()> {
     match call {
-        6 => write_text(rt, b"sp_clue")?,
-        7 => write_text(rt, b"sp_clues")?,
-        12 => write_text(rt, b"sp_binary_clue")?,
-        _ => write_text(rt, b"sp_binary_clues")?,
+        6 => write_text(rt, b"sp_clue"),
+        7 => write_text(rt, b"sp_clues"),
+        12 => write_text(rt, b"sp_binary_clue"),
+        _ => write_text(rt, b"sp_binary_clues"),
     }
-    Ok(())
 }
 
 fn write_given(rt: &impl Print, call: u64, picture: Picture, codes: &[u32]) -> io::Result<()> {
@@ -33,7 +34,14 @@ fn write_given(rt: &impl Print, call: u64, picture: Picture, codes: &[u32]) -> i
     write_list(rt, b" codes", codes)
 }
 
-fn show_line(rt: &impl Print, call: u64, codes: &[u32], blank: u32, sizes: &mut [u32], colours: &mut [u32]) -> io::Result<()> {
+fn show_line(
+    rt: &impl Print,
+    call: u64,
+    codes: &[u32],
+    blank: u32,
+    sizes: &mut [u32],
+    colours: &mut [u32],
+) -> io::Result<()> {
     write_count(rt, calls::take_line(call, codes, blank, sizes, colours))?;
     write_left(rt, b"; sizes", sizes)?;
     if call == 6 {
@@ -42,7 +50,14 @@ fn show_line(rt: &impl Print, call: u64, codes: &[u32], blank: u32, sizes: &mut 
     Ok(())
 }
 
-fn write_direction(rt: &impl Print, call: u64, name: &[u8], counts: &[u32], sizes: &[u32], colours: &[u32]) -> io::Result<()> {
+fn write_direction(
+    rt: &impl Print,
+    call: u64,
+    name: &[u8],
+    counts: &[u32],
+    sizes: &[u32],
+    colours: &[u32],
+) -> io::Result<()> {
     write_text(rt, name)?;
     write_left(rt, b"_counts", counts)?;
     write_text(rt, name)?;
@@ -54,7 +69,8 @@ fn write_direction(rt: &impl Print, call: u64, name: &[u8], counts: &[u32], size
     Ok(())
 }
 
-fn show_grid(rt: &impl Print, 
+fn show_grid(
+    rt: &impl Print,
     call: u64,
     picture: Picture,
     codes: &[u32],
@@ -65,19 +81,23 @@ fn show_grid(rt: &impl Print,
     column_sizes: &mut [u32],
     column_colours: &mut [u32],
 ) -> io::Result<()> {
-    write_totals(rt, calls::take_clues(
-        call,
-        picture,
-        codes,
-        row_counts,
-        row_sizes,
-        row_colours,
-        column_counts,
-        column_sizes,
-        column_colours,
-    ))?;
+    write_totals(
+        rt,
+        calls::take_clues(
+            call,
+            picture,
+            codes,
+            row_counts,
+            row_sizes,
+            row_colours,
+            column_counts,
+            column_sizes,
+            column_colours,
+        ),
+    )?;
     write_direction(rt, call, b"; row", row_counts, row_sizes, row_colours)?;
-    write_direction(rt, 
+    write_direction(
+        rt,
         call,
         b"; column",
         column_counts,
@@ -87,12 +107,19 @@ fn show_grid(rt: &impl Print,
 }
 
 // Lends as much room as the case says.
-fn lend_line(rt: &impl Print, call: u64, codes: &[u32], blank: u32, rooms: &[u32]) -> io::Result<()> {
+fn lend_line(
+    rt: &impl Print,
+    call: u64,
+    codes: &[u32],
+    blank: u32,
+    rooms: &[u32],
+) -> io::Result<()> {
     let mut sizes = lists::make_filled();
     let mut colours = lists::make_filled();
     let first = lists::within(room_at(rooms, 0), &sizes);
     let second = lists::within(room_at(rooms, 1), &colours);
-    show_line(rt, 
+    show_line(
+        rt,
         call,
         codes,
         blank,
@@ -101,7 +128,13 @@ fn lend_line(rt: &impl Print, call: u64, codes: &[u32], blank: u32, rooms: &[u32
     )
 }
 
-fn lend_grid(rt: &impl Print, call: u64, picture: Picture, codes: &[u32], rooms: &[u32]) -> io::Result<()> {
+fn lend_grid(
+    rt: &impl Print,
+    call: u64,
+    picture: Picture,
+    codes: &[u32],
+    rooms: &[u32],
+) -> io::Result<()> {
     let mut row_counts = lists::make_filled();
     let mut row_sizes = lists::make_filled();
     let mut row_colours = lists::make_filled();
@@ -114,7 +147,8 @@ fn lend_grid(rt: &impl Print, call: u64, picture: Picture, codes: &[u32], rooms:
     let d = lists::within(room_at(rooms, 3), &column_counts);
     let e = lists::within(room_at(rooms, 4), &column_sizes);
     let f = lists::within(room_at(rooms, 5), &column_colours);
-    show_grid(rt, 
+    show_grid(
+        rt,
         call,
         picture,
         codes,
@@ -127,7 +161,13 @@ fn lend_grid(rt: &impl Print, call: u64, picture: Picture, codes: &[u32], rooms:
     )
 }
 
-fn show_case(rt: &impl Print, call: u64, picture: Picture, codes: &[u32], rooms: &[u32]) -> io::Result<()> {
+fn show_case(
+    rt: &impl Print,
+    call: u64,
+    picture: Picture,
+    codes: &[u32],
+    rooms: &[u32],
+) -> io::Result<()> {
     write_given(rt, call, picture, codes)?;
     match call {
         7 | 13 => lend_grid(rt, call, picture, codes, rooms)?,
@@ -136,7 +176,13 @@ fn show_case(rt: &impl Print, call: u64, picture: Picture, codes: &[u32], rooms:
     write_text(rt, b"\n")
 }
 
-pub(crate) fn show<R: Read>(rt: &impl Print, call: u64, input: &mut R, buffer: &mut [u8], reader: Reader) -> io::Result<Reader> {
+pub(crate) fn show<R: Read>(
+    rt: &impl Print,
+    call: u64,
+    input: &mut R,
+    buffer: &mut [u8],
+    reader: Reader,
+) -> io::Result<Reader> {
     let mut codes = lists::make();
     let mut rooms = lists::make();
     let picture = lists::read_picture(input, buffer, reader, &mut codes)?;

@@ -1,6 +1,8 @@
 // Shows the calls that solve a line. A case has the rooms of memo and output, cells, sizes and colours (none where the line is binary).
 use crate::answers::write_answer;
 use cases::calls;
+use std::io;
+use std::io::Read;
 use vectors::reader::{Reader, demand};
 use vectors::report::{write_number, write_text};
 use vectors::show::{write_left, write_left_bytes, write_list};
@@ -29,7 +31,14 @@ fn read_rooms<R: Read>(input: &mut R, buffer: &mut [u8], reader: Reader) -> io::
     })
 }
 
-fn write_given(rt: &impl Print, call: u64, cells: &[u32], sizes: &[u32], colours: &[u32], rooms: Rooms) -> io::Result<()> {
+fn write_given(
+    rt: &impl Print,
+    call: u64,
+    cells: &[u32],
+    sizes: &[u32],
+    colours: &[u32],
+    rooms: Rooms,
+) -> io::Result<()> {
     if call == 14 {
         write_list(rt, b"sp_solve_line cells", cells)?;
         write_list(rt, b" sizes", sizes)?;
@@ -47,13 +56,13 @@ fn write_left_of(rt: &impl Print, number: u32, memo: &[u8], out: &[u32]) -> io::
     write_answer(rt, number)?;
     write_left(rt, b"; out", out)?;
     match number {
-        0 | 8 => {}
-        _ => write_left_bytes(rt, b"; memo", TURN, memo)?,
+        0 | 8 => Ok(()),
+        _ => write_left_bytes(rt, b"; memo", TURN, memo),
     }
-    Ok(())
 }
 
-fn show_line(rt: &impl Print, 
+fn show_line(
+    rt: &impl Print,
     call: u64,
     cells: &[u32],
     sizes: &[u32],
@@ -66,13 +75,21 @@ fn show_line(rt: &impl Print,
 }
 
 // Lends as much room as the case says.
-fn show_case(rt: &impl Print, call: u64, cells: &[u32], sizes: &[u32], colours: &[u32], rooms: Rooms) -> io::Result<()> {
+fn show_case(
+    rt: &impl Print,
+    call: u64,
+    cells: &[u32],
+    sizes: &[u32],
+    colours: &[u32],
+    rooms: Rooms,
+) -> io::Result<()> {
     write_given(rt, call, cells, sizes, colours, rooms)?;
     let mut memo = bytes::make_filled(TURN);
     let mut out = lists::make_filled();
     let first = bytes::within(rooms.memo, &memo);
     let second = lists::within(rooms.out, &out);
-    show_line(rt, 
+    show_line(
+        rt,
         call,
         cells,
         sizes,
@@ -83,7 +100,13 @@ fn show_case(rt: &impl Print, call: u64, cells: &[u32], sizes: &[u32], colours: 
     write_text(rt, b"\n")
 }
 
-pub(crate) fn show<R: Read>(rt: &impl Print, call: u64, input: &mut R, buffer: &mut [u8], reader: Reader) -> io::Result<Reader> {
+pub(crate) fn show<R: Read>(
+    rt: &impl Print,
+    call: u64,
+    input: &mut R,
+    buffer: &mut [u8],
+    reader: Reader,
+) -> io::Result<Reader> {
     let mut cells = lists::make();
     let mut sizes = lists::make();
     let mut colours = lists::make();
@@ -93,7 +116,8 @@ pub(crate) fn show<R: Read>(rt: &impl Print, call: u64, input: &mut R, buffer: &
     let first = line.cells;
     let second = line.sizes;
     let third = line.colours;
-    show_case(rt, 
+    show_case(
+        rt,
         call,
         &cells[..first],
         &sizes[..second],

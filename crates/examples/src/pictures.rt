@@ -2,6 +2,8 @@
 use crate::answers::{write_count, write_sides};
 use cases::pictures;
 use cases::pictures::Drawing;
+use std::io;
+use std::io::Read;
 use vectors::reader::Reader;
 use vectors::report::{write_number, write_text};
 use vectors::show::{write_left, write_left_text, write_list, write_quoted};
@@ -20,7 +22,12 @@ fn show_reading(rt: &impl Print, text: &[u8], room: usize) -> io::Result<()> {
     write_text(rt, b"\n")
 }
 
-fn show_text<R: Read>(rt: &impl Print, input: &mut R, buffer: &mut [u8], reader: Reader) -> io::Result<Reader> {
+fn show_text<R: Read>(
+    rt: &impl Print,
+    input: &mut R,
+    buffer: &mut [u8],
+    reader: Reader,
+) -> io::Result<Reader> {
     let mut text = bytes::make_filled(TURN);
     let given = pictures::read_text(input, buffer, reader, &mut text)?;
     let count = given.bytes;
@@ -46,7 +53,12 @@ fn show_writing(rt: &impl Print, drawing: Drawing, codes: &[u32]) -> io::Result<
     write_text(rt, b"\n")
 }
 
-fn show_drawing<R: Read>(rt: &impl Print, input: &mut R, buffer: &mut [u8], reader: Reader) -> io::Result<Reader> {
+fn show_drawing<R: Read>(
+    rt: &impl Print,
+    input: &mut R,
+    buffer: &mut [u8],
+    reader: Reader,
+) -> io::Result<Reader> {
     let mut codes = lists::make();
     let drawing = pictures::read_drawing(input, buffer, reader, &mut codes)?;
     let count = drawing.codes;
@@ -54,9 +66,15 @@ fn show_drawing<R: Read>(rt: &impl Print, input: &mut R, buffer: &mut [u8], read
     Ok(drawing.reader)
 }
 
-pub(crate) fn show<R: Read>(rt: &impl Print, call: u64, input: &mut R, buffer: &mut [u8], reader: Reader) -> io::Result<Reader> {
+pub(crate) fn show<R: Read>(
+    rt: &impl Print,
+    call: u64,
+    input: &mut R,
+    buffer: &mut [u8],
+    reader: Reader,
+) -> io::Result<Reader> {
     match call {
-        20 => show_text(rt, input, buffer, reader)?,
-        _ => show_drawing(rt, input, buffer, reader)?,
+        20 => show_text(rt, input, buffer, reader),
+        _ => show_drawing(rt, input, buffer, reader),
     }
 }

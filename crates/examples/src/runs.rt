@@ -3,6 +3,8 @@ use crate::answers::write_answer;
 use cases::runs::run;
 use cases::{Ends, Head, part};
 use replies::runs::RunReply;
+use std::io;
+use std::io::Read;
 use vectors::reader::{Reader, demand};
 use vectors::report::{write_number, write_text};
 use vectors::show::{write_left, write_left_bytes, write_left_long, write_list};
@@ -33,12 +35,11 @@ fn read_rooms<R: Read>(input: &mut R, buffer: &mut [u8], reader: Reader) -> io::
 
 fn write_name(rt: &impl Print, call: u64) -> io::Result<()> {
     match call {
-        16 => write_text(rt, b"sp_run")?,
-        17 => write_text(rt, b"sp_run_point")?,
-        18 => write_text(rt, b"sp_run_binary")?,
-        _ => write_text(rt, b"sp_run_binary_point")?,
+        16 => write_text(rt, b"sp_run"),
+        17 => write_text(rt, b"sp_run_point"),
+        18 => write_text(rt, b"sp_run_binary"),
+        _ => write_text(rt, b"sp_run_binary_point"),
     }
-    Ok(())
 }
 
 fn write_named(rt: &impl Print, name: &[u8], number: usize) -> io::Result<()> {
@@ -53,18 +54,22 @@ fn write_head(rt: &impl Print, call: u64, head: Head) -> io::Result<()> {
     match call {
         17 | 19 => {
             write_named(rt, b" x", head.x)?;
-            write_named(rt, b" y", head.y)?;
+            write_named(rt, b" y", head.y)
         }
-        _ => {}
+        _ => Ok(()),
     }
-    Ok(())
 }
 
 fn write_rows(rt: &impl Print, call: u64, ends: Ends, clues: &[u32]) -> io::Result<()> {
     write_list(rt, b" row_counts", part(clues, 0, ends.row_counts))?;
-    write_list(rt, b" row_sizes", part(clues, ends.row_counts, ends.row_sizes))?;
+    write_list(
+        rt,
+        b" row_sizes",
+        part(clues, ends.row_counts, ends.row_sizes),
+    )?;
     if call < 18 {
-        write_list(rt, 
+        write_list(
+            rt,
             b" row_colours",
             part(clues, ends.row_sizes, ends.row_colours),
         )?;
@@ -73,16 +78,19 @@ fn write_rows(rt: &impl Print, call: u64, ends: Ends, clues: &[u32]) -> io::Resu
 }
 
 fn write_columns(rt: &impl Print, call: u64, ends: Ends, clues: &[u32]) -> io::Result<()> {
-    write_list(rt, 
+    write_list(
+        rt,
         b" column_counts",
         part(clues, ends.row_colours, ends.column_counts),
     )?;
-    write_list(rt, 
+    write_list(
+        rt,
         b" column_sizes",
         part(clues, ends.column_counts, ends.column_sizes),
     )?;
     if call < 18 {
-        write_list(rt, 
+        write_list(
+            rt,
             b" column_colours",
             part(clues, ends.column_sizes, ends.column_colours),
         )?;
@@ -90,7 +98,15 @@ fn write_columns(rt: &impl Print, call: u64, ends: Ends, clues: &[u32]) -> io::R
     Ok(())
 }
 
-fn write_given(rt: &impl Print, call: u64, head: Head, ends: Ends, rooms: Rooms, grid: &[u32], clues: &[u32]) -> io::Result<()> {
+fn write_given(
+    rt: &impl Print,
+    call: u64,
+    head: Head,
+    ends: Ends,
+    rooms: Rooms,
+    grid: &[u32],
+    clues: &[u32],
+) -> io::Result<()> {
     write_head(rt, call, head)?;
     write_list(rt, b" grid", grid)?;
     write_rows(rt, call, ends, clues)?;
@@ -104,11 +120,10 @@ fn write_given(rt: &impl Print, call: u64, head: Head, ends: Ends, rooms: Rooms,
 fn write_line(rt: &impl Print, reply: RunReply) -> io::Result<()> {
     let kind = reply.line_kind;
     match kind {
-        0 => write_named(rt, b" at row", reply.line_index)?,
-        1 => write_named(rt, b" at column", reply.line_index)?,
-        _ => {}
+        0 => write_named(rt, b" at row", reply.line_index),
+        1 => write_named(rt, b" at column", reply.line_index),
+        _ => Ok(()),
     }
-    Ok(())
 }
 
 // Report entries and lines solved.
@@ -118,7 +133,14 @@ fn write_counts(rt: &impl Print, reply: RunReply) -> io::Result<()> {
 }
 
 // What a run answers and leaves: of memo and stack only a refusal by checking says what that is, and it has no counts.
-fn write_rest(rt: &impl Print, reply: RunReply, grid: &[u32], report: &[u32], memo: &[u8], stack: &[u32]) -> io::Result<()> {
+fn write_rest(
+    rt: &impl Print,
+    reply: RunReply,
+    grid: &[u32],
+    report: &[u32],
+    memo: &[u8],
+    stack: &[u32],
+) -> io::Result<()> {
     let number = reply.number;
     write_answer(rt, number)?;
     write_line(rt, reply)?;
@@ -138,7 +160,8 @@ fn write_rest(rt: &impl Print, reply: RunReply, grid: &[u32], report: &[u32], me
     write_text(rt, b"\n")
 }
 
-fn show_run(rt: &impl Print, 
+fn show_run(
+    rt: &impl Print,
     call: u64,
     head: Head,
     ends: Ends,
@@ -153,7 +176,15 @@ fn show_run(rt: &impl Print,
 }
 
 // Lends as much room as the case says.
-fn show_case(rt: &impl Print, call: u64, head: Head, ends: Ends, rooms: Rooms, grid: &mut [u32], clues: &[u32]) -> io::Result<()> {
+fn show_case(
+    rt: &impl Print,
+    call: u64,
+    head: Head,
+    ends: Ends,
+    rooms: Rooms,
+    grid: &mut [u32],
+    clues: &[u32],
+) -> io::Result<()> {
     write_given(rt, call, head, ends, rooms, grid, clues)?;
     let mut report = lists::make_filled_long();
     let mut memo = bytes::make_filled(TURN);
@@ -161,7 +192,8 @@ fn show_case(rt: &impl Print, call: u64, head: Head, ends: Ends, rooms: Rooms, g
     let first = lists::within(head.room, &report);
     let second = bytes::within(rooms.memo, &memo);
     let third = lists::within(rooms.stack, &stack);
-    show_run(rt, 
+    show_run(
+        rt,
         call,
         head,
         ends,
@@ -173,14 +205,21 @@ fn show_case(rt: &impl Print, call: u64, head: Head, ends: Ends, rooms: Rooms, g
     )
 }
 
-pub(crate) fn show<R: Read>(rt: &impl Print, call: u64, input: &mut R, buffer: &mut [u8], reader: Reader) -> io::Result<Reader> {
+pub(crate) fn show<R: Read>(
+    rt: &impl Print,
+    call: u64,
+    input: &mut R,
+    buffer: &mut [u8],
+    reader: Reader,
+) -> io::Result<Reader> {
     let mut grid = lists::make();
     let mut list = cases::make();
     let rooms = read_rooms(input, buffer, reader)?;
     let board = cases::read_board(input, buffer, rooms.reader, &mut grid)?;
     let clues = cases::read_clues(input, buffer, board.reader, &mut list)?;
     let cells = board.cells;
-    show_case(rt, 
+    show_case(
+        rt,
         call,
         board.head,
         clues.ends,

@@ -4,6 +4,8 @@ use cases::calls;
 use device::blocks::sp_color_ranges;
 use replies::count::CountReply;
 use replies::number::PositionsReply;
+use std::io;
+use std::io::Read;
 use vectors::lists;
 use vectors::lists::Found;
 use vectors::reader::{Reader, demand};
@@ -46,7 +48,8 @@ fn call_blocks(
 }
 
 fn compare_lists<R: Read>(
-    input: &mut R, buffer: &mut [u8],
+    input: &mut R,
+    buffer: &mut [u8],
     found: Found,
     codes: &[u32],
     more_codes: &[u32],
@@ -65,7 +68,8 @@ fn compare_call<R: Read>(
     length: usize,
     sizes: &[u32],
     colours: &[u32],
-    input: &mut R, buffer: &mut [u8],
+    input: &mut R,
+    buffer: &mut [u8],
     reader: Reader,
 ) -> io::Result<Found> {
     let mut codes = lists::make_filled();
@@ -83,7 +87,8 @@ fn compare_call<R: Read>(
         &mut more_sums,
     );
     let found = lists::compare_number(
-        input, buffer,
+        input,
+        buffer,
         Found {
             differing: 0,
             reader,
@@ -93,7 +98,12 @@ fn compare_call<R: Read>(
     compare_lists(input, buffer, found, &codes, &more_codes, &sums, &more_sums)
 }
 
-pub(crate) fn replay<R: Read>(call: u64, input: &mut R, buffer: &mut [u8], reader: Reader) -> io::Result<Found> {
+pub(crate) fn replay<R: Read>(
+    call: u64,
+    input: &mut R,
+    buffer: &mut [u8],
+    reader: Reader,
+) -> io::Result<Found> {
     let mut sizes = lists::make();
     let mut colours = lists::make();
     let length = demand(input, buffer, reader, u64::MAX)?;
@@ -107,7 +117,8 @@ pub(crate) fn replay<R: Read>(call: u64, input: &mut R, buffer: &mut [u8], reade
         length.value as usize,
         &sizes[..first],
         &colours[..second],
-        input, buffer,
+        input,
+        buffer,
         reader,
     )
 }

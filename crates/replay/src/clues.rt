@@ -3,6 +3,8 @@
 use cases::calls;
 use replies::clues::CluesReply;
 use replies::count::CountReply;
+use std::io;
+use std::io::Read;
 use vectors::lists;
 use vectors::lists::{Found, Picture};
 use vectors::reader::Reader;
@@ -65,9 +67,15 @@ fn call_clues(
     }
 }
 
-fn compare_totals<R: Read>(input: &mut R, buffer: &mut [u8], reader: Reader, totals: Totals) -> io::Result<Found> {
+fn compare_totals<R: Read>(
+    input: &mut R,
+    buffer: &mut [u8],
+    reader: Reader,
+    totals: Totals,
+) -> io::Result<Found> {
     let found = lists::compare_number(
-        input, buffer,
+        input,
+        buffer,
         Found {
             differing: 0,
             reader,
@@ -78,7 +86,8 @@ fn compare_totals<R: Read>(input: &mut R, buffer: &mut [u8], reader: Reader, tot
 }
 
 fn compare_direction<R: Read>(
-    input: &mut R, buffer: &mut [u8],
+    input: &mut R,
+    buffer: &mut [u8],
     found: Found,
     counts: &[u32],
     sizes: &[u32],
@@ -90,7 +99,13 @@ fn compare_direction<R: Read>(
 }
 
 // Makes the call on filled lists, and compares.
-fn compare_call<R: Read>(call: u64, picture: Picture, codes: &[u32], input: &mut R, buffer: &mut [u8]) -> io::Result<Found> {
+fn compare_call<R: Read>(
+    call: u64,
+    picture: Picture,
+    codes: &[u32],
+    input: &mut R,
+    buffer: &mut [u8],
+) -> io::Result<Found> {
     let mut row_counts = lists::make_filled();
     let mut row_sizes = lists::make_filled();
     let mut row_colours = lists::make_filled();
@@ -112,7 +127,8 @@ fn compare_call<R: Read>(call: u64, picture: Picture, codes: &[u32], input: &mut
     let found = compare_totals(input, buffer, reader, totals)?;
     let found = compare_direction(input, buffer, found, &row_counts, &row_sizes, &row_colours)?;
     compare_direction(
-        input, buffer,
+        input,
+        buffer,
         found,
         &column_counts,
         &column_sizes,
@@ -120,7 +136,12 @@ fn compare_call<R: Read>(call: u64, picture: Picture, codes: &[u32], input: &mut
     )
 }
 
-pub(crate) fn replay<R: Read>(call: u64, input: &mut R, buffer: &mut [u8], reader: Reader) -> io::Result<Found> {
+pub(crate) fn replay<R: Read>(
+    call: u64,
+    input: &mut R,
+    buffer: &mut [u8],
+    reader: Reader,
+) -> io::Result<Found> {
     let mut codes = lists::make();
     let picture = lists::read_picture(input, buffer, reader, &mut codes)?;
     let count = picture.codes;

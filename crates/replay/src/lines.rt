@@ -1,6 +1,8 @@
 // Replays the calls that solve a line. A case has cells, sizes and colours (none where the line is binary), then the answer's number and
 // the output, which is empty with 8: then nothing may be written.
 use cases::calls;
+use std::io;
+use std::io::Read;
 use vectors::lists::Found;
 use vectors::reader::Reader;
 use vectors::{bytes, lists};
@@ -16,12 +18,14 @@ fn compare_call<R: Read>(
     colours: &[u32],
     memo: &mut [u8],
     out: &mut [u32],
-    input: &mut R, buffer: &mut [u8],
+    input: &mut R,
+    buffer: &mut [u8],
     reader: Reader,
 ) -> io::Result<Found> {
     let number = calls::solve(call, cells, sizes, colours, memo, out);
     let found = lists::compare_number(
-        input, buffer,
+        input,
+        buffer,
         Found {
             differing: 0,
             reader,
@@ -38,7 +42,8 @@ fn replay_line<R: Read>(
     cells: &[u32],
     sizes: &[u32],
     colours: &[u32],
-    input: &mut R, buffer: &mut [u8],
+    input: &mut R,
+    buffer: &mut [u8],
     reader: Reader,
 ) -> io::Result<Found> {
     let mut memo = bytes::make_filled(case as usize);
@@ -52,12 +57,19 @@ fn replay_line<R: Read>(
         colours,
         &mut memo[..first],
         &mut out[..second],
-        input, buffer,
+        input,
+        buffer,
         reader,
     )
 }
 
-pub(crate) fn replay<R: Read>(case: u64, call: u64, input: &mut R, buffer: &mut [u8], reader: Reader) -> io::Result<Found> {
+pub(crate) fn replay<R: Read>(
+    case: u64,
+    call: u64,
+    input: &mut R,
+    buffer: &mut [u8],
+    reader: Reader,
+) -> io::Result<Found> {
     let mut cells = lists::make();
     let mut sizes = lists::make();
     let mut colours = lists::make();
@@ -72,7 +84,8 @@ pub(crate) fn replay<R: Read>(case: u64, call: u64, input: &mut R, buffer: &mut 
         &cells[..first],
         &sizes[..second],
         &colours[..third],
-        input, buffer,
+        input,
+        buffer,
         reader,
     )
 }

@@ -1,5 +1,7 @@
 // Replays the samples that the crate answered, and that of plain PBM: standard input has the cases, and standard output tells for each call how
 // many were replayed and how many differ. A sample's header says what a case holds, and tests/vectors how it is made.
+#![tactic(auto)]
+
 mod blocks;
 mod clues;
 mod lines;
@@ -8,6 +10,8 @@ mod runs;
 
 ghost use Rattle.std.specs.Prelude.{◌≡◌, length};
 
+use std::io;
+use std::io::Read;
 use vectors::lists::Found;
 use vectors::reader::{Reader, Word};
 use vectors::{reader, report};
@@ -27,22 +31,35 @@ fn make_counts() -> [u64; 22]
 }
 
 // Replays one case by the call's number.
-fn replay_call<R: Read>(case: u64, call: u64, input: &mut R, buffer: &mut [u8], reader: Reader) -> io::Result<Found> {
+fn replay_call<R: Read>(
+    case: u64,
+    call: u64,
+    input: &mut R,
+    buffer: &mut [u8],
+    reader: Reader,
+) -> io::Result<Found> {
     match call {
-        1..=5 | 8..=11 => blocks::replay(call, input, buffer, reader)?,
-        6 | 7 | 12 | 13 => clues::replay(call, input, buffer, reader)?,
-        14 | 15 => lines::replay(case, call, input, buffer, reader)?,
-        16..=19 => runs::replay(case, call, input, buffer, reader)?,
-        20 | 21 => pictures::replay(case, call, input, buffer, reader)?,
-        _ => Found {
+        1..=5 | 8..=11 => blocks::replay(call, input, buffer, reader),
+        6 | 7 | 12 | 13 => clues::replay(call, input, buffer, reader),
+        14 | 15 => lines::replay(case, call, input, buffer, reader),
+        16..=19 => runs::replay(case, call, input, buffer, reader),
+        20 | 21 => pictures::replay(case, call, input, buffer, reader),
+        _ => Ok(Found {
             differing: 1,
             reader: reader::fail(reader),
-        },
+        }),
     }
 }
 
 // Counts a replayed case, and tells its number where it differs.
-fn count_case(rt: &impl Print, case: u64, call: u64, found: Found, cases: &mut [u64], differing: &mut [u64]) -> io::Result<()> {
+fn count_case(
+    rt: &impl Print,
+    case: u64,
+    call: u64,
+    found: Found,
+    cases: &mut [u64],
+    differing: &mut [u64],
+) -> io::Result<()> {
     report::count(cases, call);
     if found.differing != 0 {
         report::count(differing, call);
@@ -52,9 +69,11 @@ fn count_case(rt: &impl Print, case: u64, call: u64, found: Found, cases: &mut [
 }
 
 // The next case of the file, if there is one.
-fn replay_next<R: Read>(rt: &impl Print, 
+fn replay_next<R: Read>(
+    rt: &impl Print,
     case: u64,
-    input: &mut R, buffer: &mut [u8],
+    input: &mut R,
+    buffer: &mut [u8],
     reader: Reader,
     cases: &mut [u64],
     differing: &mut [u64],
@@ -78,7 +97,13 @@ fn replay_next<R: Read>(rt: &impl Print,
 }
 
 // All cases of the file; answers where reading ended. The loop counts the cases, since nothing says that an input ends.
-fn replay_all<R: Read>(rt: &impl Print, input: &mut R, buffer: &mut [u8], cases: &mut [u64], differing: &mut [u64]) -> io::Result<Reader> {
+fn replay_all<R: Read>(
+    rt: &impl Print,
+    input: &mut R,
+    buffer: &mut [u8],
+    cases: &mut [u64],
+    differing: &mut [u64],
+) -> io::Result<Reader> {
     let mut reader = reader::open();
     let mut going = true;
     let mut case = 0;
@@ -127,15 +152,21 @@ fn write_pictures(rt: &impl Print, cases: &[u64], differing: &[u64]) -> io::Resu
     report::write_call(rt, b"sp_write_pbm", 21, cases, differing)
 }
 
-fn main() {
-    let mut buffer = io::large_buffer();
+fn main(rt: HostRuntime) -> io::Result<()> {
+    let mut buffer = [0; 65536];
     let mut cases = make_counts();
     let mut differing = make_counts();
-    let end = replay_all(rt, input, &mut buffer, &mut cases, &mut differing)?;
-    write_coloured(rt, &cases, &differing)?;
-    write_binary(rt, &cases, &differing)?;
-    write_lines(rt, &cases, &differing)?;
-    write_runs(rt, &cases, &differing)?;
-    write_pictures(rt, &cases, &differing)?;
-    report::write_end(rt, &cases, &differing, end.faulty)?;
+    let end = replay_all(
+        &rt,
+        &mut rt.reader(),
+        &mut buffer,
+        &mut cases,
+        &mut differing,
+    )?;
+    write_coloured(&rt, &cases, &differing)?;
+    write_binary(&rt, &cases, &differing)?;
+    write_lines(&rt, &cases, &differing)?;
+    write_runs(&rt, &cases, &differing)?;
+    write_pictures(&rt, &cases, &differing)?;
+    report::write_end(&rt, &cases, &differing, end.faulty)
 }

@@ -4,11 +4,18 @@ use cases::pictures;
 use cases::pictures::Drawing;
 use replies::count::CountReply;
 use replies::pictures::PbmReply;
+use std::io;
+use std::io::Read;
 use vectors::lists::Found;
 use vectors::reader::Reader;
 use vectors::{bytes, lists};
 
-fn compare_reply<R: Read>(input: &mut R, buffer: &mut [u8], reader: Reader, reply: PbmReply) -> io::Result<Found> {
+fn compare_reply<R: Read>(
+    input: &mut R,
+    buffer: &mut [u8],
+    reader: Reader,
+    reply: PbmReply,
+) -> io::Result<Found> {
     let found = Found {
         differing: 0,
         reader,
@@ -24,7 +31,8 @@ fn compare_codes<R: Read>(
     room: usize,
     first: usize,
     codes: &mut [u32],
-    input: &mut R, buffer: &mut [u8],
+    input: &mut R,
+    buffer: &mut [u8],
     reader: Reader,
 ) -> io::Result<Found> {
     let start = lists::within(first, codes);
@@ -46,7 +54,8 @@ fn compare_text<R: Read>(
     codes: &[u32],
     first: usize,
     text: &mut [u8],
-    input: &mut R, buffer: &mut [u8],
+    input: &mut R,
+    buffer: &mut [u8],
 ) -> io::Result<Found> {
     let reply = write_from(drawing, codes, first, text);
     let reader = drawing.reader;
@@ -62,7 +71,8 @@ fn replay_text<R: Read>(
     first: usize,
     text: &mut [u8],
     codes: &mut [u32],
-    input: &mut R, buffer: &mut [u8],
+    input: &mut R,
+    buffer: &mut [u8],
     reader: Reader,
 ) -> io::Result<Found> {
     let given = pictures::read_text(input, buffer, reader, text)?;
@@ -72,7 +82,8 @@ fn replay_text<R: Read>(
         given.room,
         first,
         codes,
-        input, buffer,
+        input,
+        buffer,
         given.reader,
     )
 }
@@ -82,7 +93,8 @@ fn replay_drawing<R: Read>(
     first: usize,
     codes: &mut [u32],
     text: &mut [u8],
-    input: &mut R, buffer: &mut [u8],
+    input: &mut R,
+    buffer: &mut [u8],
     reader: Reader,
 ) -> io::Result<Found> {
     let drawing = pictures::read_drawing(input, buffer, reader, codes)?;
@@ -91,7 +103,13 @@ fn replay_drawing<R: Read>(
 }
 
 // Lends both lists as parts of filled ones, which begin elsewhere from case to case.
-pub(crate) fn replay<R: Read>(case: u64, call: u64, input: &mut R, buffer: &mut [u8], reader: Reader) -> io::Result<Found> {
+pub(crate) fn replay<R: Read>(
+    case: u64,
+    call: u64,
+    input: &mut R,
+    buffer: &mut [u8],
+    reader: Reader,
+) -> io::Result<Found> {
     let turn = case as usize;
     let mut text = bytes::make_filled(turn);
     let mut codes = lists::make_filled();
@@ -99,14 +117,22 @@ pub(crate) fn replay<R: Read>(case: u64, call: u64, input: &mut R, buffer: &mut 
     let text_start = bytes::within(first, &text);
     let codes_start = lists::within(first, &codes);
     match call {
-        20 => replay_text(first, &mut text[text_start..], &mut codes, input, buffer, reader)?,
+        20 => replay_text(
+            first,
+            &mut text[text_start..],
+            &mut codes,
+            input,
+            buffer,
+            reader,
+        ),
         _ => replay_drawing(
             turn,
             first,
             &mut codes[codes_start..],
             &mut text,
-            input, buffer,
+            input,
+            buffer,
             reader,
-        )?,
+        ),
     }
 }

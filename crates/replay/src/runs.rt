@@ -3,6 +3,8 @@
 use cases::runs::run;
 use cases::{Ends, Head};
 use replies::runs::RunReply;
+use std::io;
+use std::io::Read;
 use vectors::lists::Found;
 use vectors::reader::Reader;
 use vectors::{bytes, lists};
@@ -13,7 +15,12 @@ const MEMO: usize = 4160;
 // The least stack of a run.
 const STACK: usize = 128;
 
-fn compare_reply<R: Read>(input: &mut R, buffer: &mut [u8], reader: Reader, reply: RunReply) -> io::Result<Found> {
+fn compare_reply<R: Read>(
+    input: &mut R,
+    buffer: &mut [u8],
+    reader: Reader,
+    reply: RunReply,
+) -> io::Result<Found> {
     let found = Found {
         differing: 0,
         reader,
@@ -27,7 +34,8 @@ fn compare_reply<R: Read>(input: &mut R, buffer: &mut [u8], reader: Reader, repl
 
 // Compares an answer and what it leaves. The report was lent from `first` on.
 fn compare_rest<R: Read>(
-    input: &mut R, buffer: &mut [u8],
+    input: &mut R,
+    buffer: &mut [u8],
     reader: Reader,
     reply: RunReply,
     grid: &[u32],
@@ -74,7 +82,8 @@ fn compare_run<R: Read>(
     report: &mut [u32],
     memo: &mut [u8],
     stack: &mut [u32],
-    input: &mut R, buffer: &mut [u8],
+    input: &mut R,
+    buffer: &mut [u8],
     reader: Reader,
 ) -> io::Result<Found> {
     let reply = make_run(call, head, ends, grid, clues, first, report, memo, stack);
@@ -89,7 +98,8 @@ fn replay_run<R: Read>(
     ends: Ends,
     grid: &mut [u32],
     clues: &[u32],
-    input: &mut R, buffer: &mut [u8],
+    input: &mut R,
+    buffer: &mut [u8],
     reader: Reader,
 ) -> io::Result<Found> {
     let mut report = lists::make_filled_long();
@@ -110,12 +120,19 @@ fn replay_run<R: Read>(
         &mut report[..end],
         &mut memo[..bytes_end],
         &mut stack[..stack_end],
-        input, buffer,
+        input,
+        buffer,
         reader,
     )
 }
 
-pub(crate) fn replay<R: Read>(case: u64, call: u64, input: &mut R, buffer: &mut [u8], reader: Reader) -> io::Result<Found> {
+pub(crate) fn replay<R: Read>(
+    case: u64,
+    call: u64,
+    input: &mut R,
+    buffer: &mut [u8],
+    reader: Reader,
+) -> io::Result<Found> {
     let mut grid = lists::make();
     let mut list = cases::make();
     let board = cases::read_board(input, buffer, reader, &mut grid)?;
@@ -128,7 +145,8 @@ pub(crate) fn replay<R: Read>(case: u64, call: u64, input: &mut R, buffer: &mut 
         clues.ends,
         &mut grid[..cells],
         &list,
-        input, buffer,
+        input,
+        buffer,
         clues.reader,
     )
 }
