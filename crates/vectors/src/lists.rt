@@ -234,8 +234,8 @@ pub fn read_pair<R: Read>(
     first: &mut [u32],
     second: &mut [u32],
 ) -> io::Result<Pair>
-    ensures prefix_len { IfOk result (λ r. IsPrefixLen r.first first.new) }
-    ensures prefix_len_2 { IfOk result (λ r. IsPrefixLen r.second second.new) }
+    ensures first { IfOk result (λ r. IsPrefixLen r.first first.new) }
+    ensures second { IfOk result (λ r. IsPrefixLen r.second second.new) }
 {
     let one = read(input, buffer, reader, first)?;
     let reader = one.reader;
@@ -257,9 +257,9 @@ pub fn read_line<R: Read>(
     sizes: &mut [u32],
     colours: &mut [u32],
 ) -> io::Result<Line>
-    ensures prefix_len { IfOk result (λ r. IsPrefixLen r.cells cells.new) }
-    ensures prefix_len_2 { IfOk result (λ r. IsPrefixLen r.sizes sizes.new) }
-    ensures prefix_len_3 { IfOk result (λ r. IsPrefixLen r.colours colours.new) }
+    ensures cells { IfOk result (λ r. IsPrefixLen r.cells cells.new) }
+    ensures sizes { IfOk result (λ r. IsPrefixLen r.sizes sizes.new) }
+    ensures colours { IfOk result (λ r. IsPrefixLen r.colours colours.new) }
 {
     let listed = read(input, buffer, reader, cells)?;
     let reader = listed.reader;

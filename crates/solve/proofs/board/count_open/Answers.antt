@@ -9,8 +9,8 @@ pub loop-i-preserved : goal.loop-i-preserved
 loop-i-preserved c =
     let seen = c.is_open.ensures ∙ ap is_open c.set_shown.ensures in
     elim c.if-is_open.branch [
-      then-is_open w ↦ rw w.open-is (count_one _ _ _ _ c.loop-i-test.true (sym seen ∙ w.if-is_open.true) c.loop-i.invariant)
-    | else-is_open w ↦ rw w.open-is (count_skip _ _ _ _ c.loop-i-test.true (sym seen ∙ w.if-is_open.false) c.loop-i.invariant)
+      | then-is_open w ↦ rw w.open-is (count_one _ _ _ _ c.loop-i-test.true (sym seen ∙ w.if-is_open.true) c.loop-i.invariant)
+      | else-is_open w ↦ rw w.open-is (count_skip _ _ _ _ c.loop-i-test.true (sym seen ∙ w.if-is_open.false) c.loop-i.invariant)
     ]
 
 pub returns : goal.returns
