@@ -1,7 +1,7 @@
 -- Each cell is counted once.
-use Rattle.std.proofs.Common.{◌≡◌, ◌+◌, ◌<◌, ◌≤◌, length, get_or, sym, ◌∙◌, ap}
+use Rattle.std.proofs.Common.{sym, ◌∙◌, ap}
 use Rattle.solve.proofs.Opened.{count_one, count_skip, counted}
-use Rattle.solve.specs.Shown.{set_shown, is_open}
+use Rattle.solve.specs.Shown.{is_open}
 use Rattle.solve.proofs.board.count_open.Goals as goal
 use Rattle.solve.proofs.board.count_open.Goals.{then-is_open, else-is_open}
 
