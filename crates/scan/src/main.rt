@@ -1,7 +1,7 @@
 // Makes cards in the .non format of pictures in plain PBM: of the files that the arguments name, or of the picture on standard input.
 //
-// A program of this kind ends with status 0 always. So an answer begins with `no picture,` where a text is none; else it is a card, which
-// begins with its title. card.sh makes its status of that.
+// It ends with status 0 whatever the files hold, and with 1 only where its answer cannot be written. So an answer begins with `no picture,` where
+// a text is none; else it is a card, which begins with its title. card.sh makes its status of that.
 #![tactic(auto)]
 
 mod cards;

@@ -1,8 +1,9 @@
 // Solves cards in the .non format and shows their boards: those of the files that the arguments name, where `-` is standard input, or the
 // one on standard input.
 //
-// A program of this kind ends with status 0 always. So an answer begins with `bad card,` where a file is no card and with `unsolvable` where
-// a card has no solution, and it tells how many cells are open, where some are. solve.sh makes its status of that.
+// It ends with status 0 whatever the files hold, and with 1 only where its answer cannot be written. So an answer begins with `bad card,` where a
+// file is no card and with `unsolvable` where a card has no solution, and it tells how many cells are open, where some are. solve.sh makes its
+// status of that.
 #![tactic(auto)]
 
 mod board;
