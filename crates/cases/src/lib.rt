@@ -1,18 +1,22 @@
 // The device's calls by their numbers, for the programs that show and replay them, and the cards of runs: two sides, a point, the report's
 // room, a grid, and the clues of rows and columns. The six lists of clues stand one after the other in one list, and a call is lent its parts.
+#![tactic(auto)]
+
 pub mod calls;
 pub mod pictures;
 pub mod runs;
 
-ghost use Rattle.std.specs.Prelude.{◌≡◌, length};
-ghost use Rattle.io.specs.Counts.{IsPrefixLen};
+ghost use Rattle.std.specs.Prelude.{◌≡◌, length, IfOk};
+ghost use Rattle.vectors.specs.Counts.{IsPrefixLen};
 
+use std::io;
+use std::io::Read;
 use vectors::lists;
 use vectors::lists::Listed;
 use vectors::reader::{Reader, demand};
 
 // A card's sides.
-#[derive(Drop)]
+#[derive(Clone, Copy)]
 struct Sides {
     width: usize,
     height: usize,
@@ -20,7 +24,7 @@ struct Sides {
 }
 
 // The numbers that a card begins with.
-#[derive(Drop)]
+#[derive(Clone, Copy)]
 pub struct Head {
     pub width: usize,
     pub height: usize,
@@ -30,14 +34,14 @@ pub struct Head {
 }
 
 // Those, and where reading is.
-#[derive(Drop)]
+#[derive(Clone, Copy)]
 struct Start {
     head: Head,
     reader: Reader,
 }
 
 // A card's numbers, and how many cells its grid has.
-#[derive(Drop)]
+#[derive(Clone, Copy)]
 pub struct Board {
     pub head: Head,
     pub cells: usize,
@@ -45,7 +49,7 @@ pub struct Board {
 }
 
 // Where the three lists of a direction end.
-#[derive(Drop)]
+#[derive(Clone, Copy)]
 struct Direction {
     counts: usize,
     sizes: usize,
@@ -54,7 +58,7 @@ struct Direction {
 }
 
 // Where each list of clues ends in the list that holds all six.
-#[derive(Drop)]
+#[derive(Clone, Copy)]
 pub struct Ends {
     pub row_counts: usize,
     pub row_sizes: usize,
@@ -65,7 +69,7 @@ pub struct Ends {
 }
 
 // That, and where reading is.
-#[derive(Drop)]
+#[derive(Clone, Copy)]
 pub struct Clues {
     pub ends: Ends,
     pub reader: Reader,
@@ -78,23 +82,23 @@ pub fn make() -> [u32; 16640]
     [0; 16640]
 }
 
-fn read_sides(buffer: &mut [u8], reader: Reader) -> Sides {
-    let width = demand(buffer, reader, u64::MAX);
+fn read_sides<R: Read>(input: &mut R, buffer: &mut [u8], reader: Reader) -> io::Result<Sides> {
+    let width = demand(input, buffer, reader, u64::MAX)?;
     let reader = width.reader;
-    let height = demand(buffer, reader, u64::MAX);
+    let height = demand(input, buffer, reader, u64::MAX)?;
     let reader = height.reader;
-    Sides {
+    Ok(Sides {
         width: width.value as usize,
         height: height.value as usize,
         reader,
-    }
+    })
 }
 
-fn read_start(buffer: &mut [u8], reader: Reader) -> Start {
-    let sides = read_sides(buffer, reader);
-    let x = demand(buffer, sides.reader, u64::MAX);
-    let y = demand(buffer, x.reader, u64::MAX);
-    let room = demand(buffer, y.reader, u64::MAX);
+fn read_start<R: Read>(input: &mut R, buffer: &mut [u8], reader: Reader) -> io::Result<Start> {
+    let sides = read_sides(input, buffer, reader)?;
+    let x = demand(input, buffer, sides.reader, u64::MAX)?;
+    let y = demand(input, buffer, x.reader, u64::MAX)?;
+    let room = demand(input, buffer, y.reader, u64::MAX)?;
     let reader = room.reader;
     let head = Head {
         width: sides.width,
@@ -103,52 +107,74 @@ fn read_start(buffer: &mut [u8], reader: Reader) -> Start {
         y: y.value as usize,
         room: room.value as usize,
     };
-    Start { head, reader }
+    Ok(Start { head, reader })
 }
 
 // Reads one list more into a list that holds `from` entries, and counts all.
-fn read_after(buffer: &mut [u8], reader: Reader, from: usize, list: &mut [u32]) -> Listed {
+fn read_after<R: Read>(
+    input: &mut R,
+    buffer: &mut [u8],
+    reader: Reader,
+    from: usize,
+    list: &mut [u32],
+) -> io::Result<Listed> {
     let start = lists::within(from, list);
-    let listed = lists::read(buffer, reader, &mut list[start..]);
+    let listed = lists::read(input, buffer, reader, &mut list[start..])?;
     let reader = listed.reader;
-    Listed {
+    Ok(Listed {
         count: start + listed.count,
         reader,
-    }
+    })
 }
 
 // Reads the three lists of a direction after the first `from` entries.
-fn read_direction(buffer: &mut [u8], reader: Reader, from: usize, clues: &mut [u32]) -> Direction {
-    let counts = read_after(buffer, reader, from, clues);
-    let sizes = read_after(buffer, counts.reader, counts.count, clues);
-    let colours = read_after(buffer, sizes.reader, sizes.count, clues);
+fn read_direction<R: Read>(
+    input: &mut R,
+    buffer: &mut [u8],
+    reader: Reader,
+    from: usize,
+    clues: &mut [u32],
+) -> io::Result<Direction> {
+    let counts = read_after(input, buffer, reader, from, clues)?;
+    let sizes = read_after(input, buffer, counts.reader, counts.count, clues)?;
+    let colours = read_after(input, buffer, sizes.reader, sizes.count, clues)?;
     let reader = colours.reader;
-    Direction {
+    Ok(Direction {
         counts: counts.count,
         sizes: sizes.count,
         colours: colours.count,
         reader,
-    }
+    })
 }
 
 // Reads a card's numbers and its grid. The clues come next.
-pub fn read_board(buffer: &mut [u8], reader: Reader, grid: &mut [u32]) -> Board
-    ensures { IsPrefixLen result.cells grid.new }
+pub fn read_board<R: Read>(
+    input: &mut R,
+    buffer: &mut [u8],
+    reader: Reader,
+    grid: &mut [u32],
+) -> io::Result<Board>
+    ensures { IfOk result (λ r. IsPrefixLen r.cells grid.new) }
 {
-    let start = read_start(buffer, reader);
+    let start = read_start(input, buffer, reader)?;
     let head = start.head;
-    let listed = lists::read(buffer, start.reader, grid);
+    let listed = lists::read(input, buffer, start.reader, grid)?;
     let reader = listed.reader;
-    Board {
+    Ok(Board {
         head,
         cells: listed.count,
         reader,
-    }
+    })
 }
 
-pub fn read_clues(buffer: &mut [u8], reader: Reader, clues: &mut [u32]) -> Clues {
-    let rows = read_direction(buffer, reader, 0, clues);
-    let columns = read_direction(buffer, rows.reader, rows.colours, clues);
+pub fn read_clues<R: Read>(
+    input: &mut R,
+    buffer: &mut [u8],
+    reader: Reader,
+    clues: &mut [u32],
+) -> io::Result<Clues> {
+    let rows = read_direction(input, buffer, reader, 0, clues)?;
+    let columns = read_direction(input, buffer, rows.reader, rows.colours, clues)?;
     let reader = columns.reader;
     let ends = Ends {
         row_counts: rows.counts,
@@ -158,7 +184,7 @@ pub fn read_clues(buffer: &mut [u8], reader: Reader, clues: &mut [u32]) -> Clues
         column_sizes: columns.sizes,
         column_colours: columns.colours,
     };
-    Clues { ends, reader }
+    Ok(Clues { ends, reader })
 }
 
 // The entries of a list from `from` to `end`; none where the list has not all of them.

@@ -1,16 +1,19 @@
 // Pictures as plain PBM: what a case of call 20, which reads one, and of call 21, which writes one, is given, and both calls with as much room
 // as the case says.
-ghost use Rattle.io.specs.Counts.{IsPrefixLen};
+ghost use Rattle.std.specs.Prelude.{IfOk};
+ghost use Rattle.vectors.specs.Counts.{IsPrefixLen};
 
 use crate::read_sides;
 use device::pictures::{sp_read_pbm, sp_write_pbm};
 use replies::count::CountReply;
 use replies::pictures::PbmReply;
+use std::io;
+use std::io::Read;
 use vectors::reader::{Reader, demand};
 use vectors::{bytes, lists};
 
 // The room for a picture's codes, and how many bytes its text has.
-#[derive(Drop)]
+#[derive(Clone, Copy)]
 pub struct Text {
     pub room: usize,
     pub bytes: usize,
@@ -18,7 +21,7 @@ pub struct Text {
 }
 
 // A picture's sides, the room for its text, and how many codes it has.
-#[derive(Drop)]
+#[derive(Clone, Copy)]
 pub struct Drawing {
     pub width: usize,
     pub height: usize,
@@ -28,34 +31,44 @@ pub struct Drawing {
 }
 
 // Reads a case of call 20: a room and a text.
-pub fn read_text(buffer: &mut [u8], reader: Reader, text: &mut [u8]) -> Text
-    ensures { IsPrefixLen result.bytes text.new }
+pub fn read_text<R: Read>(
+    input: &mut R,
+    buffer: &mut [u8],
+    reader: Reader,
+    text: &mut [u8],
+) -> io::Result<Text>
+    ensures { IfOk result (λ r. IsPrefixLen r.bytes text.new) }
 {
-    let room = demand(buffer, reader, u64::MAX);
-    let listed = bytes::read(buffer, room.reader, text);
+    let room = demand(input, buffer, reader, u64::MAX)?;
+    let listed = bytes::read(input, buffer, room.reader, text)?;
     let reader = listed.reader;
-    Text {
+    Ok(Text {
         room: room.value as usize,
         bytes: listed.count,
         reader,
-    }
+    })
 }
 
 // Reads a case of call 21: two sides, a room and codes.
-pub fn read_drawing(buffer: &mut [u8], reader: Reader, codes: &mut [u32]) -> Drawing
-    ensures { IsPrefixLen result.codes codes.new }
+pub fn read_drawing<R: Read>(
+    input: &mut R,
+    buffer: &mut [u8],
+    reader: Reader,
+    codes: &mut [u32],
+) -> io::Result<Drawing>
+    ensures { IfOk result (λ r. IsPrefixLen r.codes codes.new) }
 {
-    let sides = read_sides(buffer, reader);
-    let room = demand(buffer, sides.reader, u64::MAX);
-    let listed = lists::read(buffer, room.reader, codes);
+    let sides = read_sides(input, buffer, reader)?;
+    let room = demand(input, buffer, sides.reader, u64::MAX)?;
+    let listed = lists::read(input, buffer, room.reader, codes)?;
     let reader = listed.reader;
-    Drawing {
+    Ok(Drawing {
         width: sides.width,
         height: sides.height,
         room: room.value as usize,
         codes: listed.count,
         reader,
-    }
+    })
 }
 
 // Reads a picture into the front of the codes.

@@ -5,14 +5,14 @@ use crate::palette::BLACK;
 use crate::words::{Class, Word, is_letter, read_word};
 
 // A block with its colour's word, and where it ends; or what is wrong with it.
-#[derive(Drop)]
+#[derive(Clone, Copy)]
 pub(crate) enum Block {
     Is { size: u32, word: u64, end: usize },
     Bad(Fault),
 }
 
 // What stands after a block: a comma, with the place after it; the line's end; or what is wrong.
-#[derive(Drop)]
+#[derive(Clone, Copy)]
 pub(crate) enum After {
     Comma(usize),
     End,

@@ -1,5 +1,5 @@
 // What can be wrong with a card: numbers, and a text for each. In brackets stands document 01's number, where it has one.
-use libc::STDOUT_FILENO;
+use std::io;
 
 // 0 where nothing is wrong.
 pub type Fault = u32;
@@ -63,27 +63,29 @@ fn end_line(texts: &[u8], from: usize) -> usize {
 }
 
 // Writes the line of a number.
-fn write_line(texts: &[u8], number: u32) {
+fn write_line(rt: &impl Print, texts: &[u8], number: u32) -> io::Result<()> {
     let mut from = 0;
     let mut left = number;
     while left > 0 {
         left -= 1;
         from = end_line(texts, from);
     }
-    write_part(texts, from, end_line(texts, from));
+    write_part(rt, texts, from, end_line(texts, from))
 }
 
-fn write_part(texts: &[u8], from: usize, end: usize) {
+fn write_part(rt: &impl Print, texts: &[u8], from: usize, end: usize) -> io::Result<()> {
     if from <= end {
         if end <= texts.len() {
-            io::write_all(STDOUT_FILENO, &texts[from..end]);
+            return rt.write_all(&texts[from..end]);
         }
     }
+    Ok(())
 }
 
 // Writes what is wrong, in the order of the numbers above.
-pub fn write_fault(fault: Fault) {
+pub fn write_fault(rt: &impl Print, fault: Fault) -> io::Result<()> {
     write_line(
+        rt,
         b"nothing is wrong\n\
           this text is not understood\n\
           a number is missing\n\
@@ -108,5 +110,5 @@ pub fn write_fault(fault: Fault) {
           there are no columns\n\
           this line begins no list, and sizes follow it\n",
         fault,
-    );
+    )
 }

@@ -22,7 +22,7 @@ const GOAL: u64 = 0x20202020676f616c;
 const SMALL: u64 = 0x2020202020202020;
 
 // What a line is made of: letters alone, or what a goal has.
-#[derive(Drop)]
+#[derive(Clone, Copy)]
 enum Made {
     Letters,
     Goal,

@@ -3,6 +3,8 @@
 // Such a file has the lines `width N` and `height N`, and the lists `rows` and `columns`: a line of sizes for each row or column, with
 // commas between them. A block of colour c is written `size:c`. `#` starts a comment, and a line with any other key is passed over.
 // cards/README.md has the rules.
+#![tactic(auto)]
+
 mod before;
 mod blocks;
 mod clues;
@@ -20,10 +22,11 @@ use faults::Fault;
 use headings::{blame, judge_end, take_heading};
 use layout::{BEFORE, COLUMNS, ROOM, ROWS};
 use pieces::{Found, Next, next_line, open};
+use std::io::Read;
 use words::is_digit;
 
 // What a file holds: a card; or a fault in a line of it; or one that shows at its end, after that line; or nothing that can be read.
-#[derive(Drop)]
+#[derive(Clone, Copy)]
 pub enum Outcome {
     Card,
     BadLine { fault: Fault, line: u32 },
@@ -31,7 +34,7 @@ pub enum Outcome {
     Unreadable,
 }
 
-#[derive(Drop)]
+#[derive(Clone, Copy)]
 enum Step {
     Going,
     Ended(Outcome),
@@ -110,17 +113,17 @@ fn take_next(next: Next, text: &[u8], card: &mut [u32; ROOM]) -> Step {
 }
 
 // Reads line after line. The loop counts them, since nothing says that a file ends.
-fn read_lines(
-    file: i32,
+fn read_lines<R: Read>(
+    input: &mut R,
     buffer: &mut [u8; 4096],
     text: &mut [u8; 4096],
     card: &mut [u32; ROOM],
 ) -> Outcome {
-    let mut place = open(file);
+    let mut place = open();
     let mut left = u64::MAX;
     while left > 0 {
         left -= 1;
-        let next = next_line(buffer, place, text);
+        let next = next_line(input, buffer, place, text);
         place = next.place;
         let step = take_next(next, text, card);
         if let Step::Ended(outcome) = step {
@@ -130,9 +133,9 @@ fn read_lines(
     Outcome::Unreadable
 }
 
-// Reads a card from an open file into a list as `layout::make` makes it.
-pub fn read_card(file: i32, card: &mut [u32; ROOM]) -> Outcome {
-    let mut buffer = io::buffer();
-    let mut text = io::buffer();
-    read_lines(file, &mut buffer, &mut text, card)
+// Reads a card from a file, or whatever else gives bytes, into a list as `layout::make` makes it.
+pub fn read_card<R: Read>(input: &mut R, card: &mut [u32; ROOM]) -> Outcome {
+    let mut buffer = [0; 4096];
+    let mut text = [0; 4096];
+    read_lines(input, &mut buffer, &mut text, card)
 }

@@ -1,11 +1,11 @@
 // Reads a file in pieces, and hands out its lines: without comments, and without blanks but one between two words. So a file may be of any
 // length, and so may comments and blanks.
 use crate::words::{Class, belongs};
+use std::io::Read;
 
 // How far reading is: the bytes of the buffer from `at` to `filled` are still to be used. `line` counts the lines before, up to 2^32 - 1.
-#[derive(Drop)]
+#[derive(Clone, Copy)]
 pub(crate) struct Place {
-    file: i32,
     at: usize,
     filled: usize,
     over: bool,
@@ -16,7 +16,7 @@ pub(crate) struct Place {
 // A line as far as it was read: how many bytes of a byte order mark are all of the file so far, or 3 where there was anything else; how many
 // bytes were kept; whether the last of them is of a word; whether blanks stand after it; whether a comment has begun; whether a byte found
 // no room.
-#[derive(Drop)]
+#[derive(Clone, Copy)]
 struct Kept {
     mark: u8,
     length: usize,
@@ -27,7 +27,7 @@ struct Kept {
 }
 
 // What comes next in a file: a line, a line that is a comment alone, the end, or nothing that can be read.
-#[derive(Drop)]
+#[derive(Clone, Copy)]
 pub(crate) enum Found {
     Line,
     Comment,
@@ -36,7 +36,7 @@ pub(crate) enum Found {
 }
 
 // The first `length` bytes of the lent text are the line's. `cut` tells that it has more.
-#[derive(Drop)]
+#[derive(Clone, Copy)]
 pub(crate) struct Next {
     pub(crate) found: Found,
     pub(crate) length: usize,
@@ -44,9 +44,9 @@ pub(crate) struct Next {
     pub(crate) place: Place,
 }
 
-pub(crate) fn open(file: i32) -> Place {
+// The start of a file.
+pub(crate) fn open() -> Place {
     Place {
-        file,
         at: 0,
         filled: 0,
         over: false,
@@ -56,19 +56,26 @@ pub(crate) fn open(file: i32) -> Place {
 }
 
 // Reads a piece more where the buffer is used up and the file is not over.
-fn fill(buffer: &mut [u8; 4096], place: Place) -> Place {
+fn fill<R: Read>(input: &mut R, buffer: &mut [u8; 4096], place: Place) -> Place {
     if place.at < place.filled || place.over {
         return place;
     }
-    let got = libc::read(place.file, buffer);
-    let filled = io::count(got, buffer);
-    Place {
-        file: place.file,
-        at: 0,
-        filled,
-        over: filled == 0,
-        failed: got < 0,
-        line: place.line,
+    let line = place.line;
+    match input.read(buffer) {
+        Ok(filled) => Place {
+            at: 0,
+            filled,
+            over: filled == 0,
+            failed: false,
+            line,
+        },
+        Err(_) => Place {
+            at: 0,
+            filled: 0,
+            over: true,
+            failed: true,
+            line,
+        },
     }
 }
 
@@ -189,13 +196,18 @@ fn end_file(kept: Kept, place: Place) -> Next {
 }
 
 // The next line of the file. The count of turns only shows that the loop ends, since nothing says that a line does.
-pub(crate) fn next_line(buffer: &mut [u8; 4096], start: Place, text: &mut [u8; 4096]) -> Next {
+pub(crate) fn next_line<R: Read>(
+    input: &mut R,
+    buffer: &mut [u8; 4096],
+    start: Place,
+    text: &mut [u8; 4096],
+) -> Next {
     let mut place = start;
     let mut kept = begin_line(if start.line == 0 { 0 } else { 3 });
     let mut left = u64::MAX;
     while left > 0 {
         left -= 1;
-        place = fill(buffer, place);
+        place = fill(input, buffer, place);
         let at = place.at;
         if at >= place.filled || at >= 4096 {
             return end_file(kept, place);

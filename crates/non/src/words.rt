@@ -3,7 +3,7 @@ ghost use Rattle.std.specs.Prelude.{◌≡◌, drop};
 ghost use Rattle.non.specs.Wording.{digit, letter, in_word, base_of, worth_of, most_of, word_in, read_as, word_to};
 
 // The kinds of word: a number below 2^32, a key of letters, and a colour's name of letters and digits.
-#[derive(Drop)]
+#[derive(Clone, Copy)]
 pub(crate) enum Class {
     Number,
     Key,
@@ -11,7 +11,7 @@ pub(crate) enum Class {
 }
 
 // The word that begins at a byte: its value and where it ends; one that is too long; or none.
-#[derive(Drop)]
+#[derive(Clone, Copy)]
 pub(crate) enum Word {
     Is { value: u64, end: usize },
     Long,

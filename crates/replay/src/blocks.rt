@@ -4,6 +4,8 @@ use cases::calls;
 use device::blocks::sp_color_ranges;
 use replies::count::CountReply;
 use replies::number::PositionsReply;
+use std::io;
+use std::io::Read;
 use vectors::lists;
 use vectors::lists::Found;
 use vectors::reader::{Reader, demand};
@@ -45,29 +47,31 @@ fn call_blocks(
     }
 }
 
-fn compare_lists(
+fn compare_lists<R: Read>(
+    input: &mut R,
     buffer: &mut [u8],
     found: Found,
     codes: &[u32],
     more_codes: &[u32],
     sums: &[u64],
     more_sums: &[u64],
-) -> Found {
-    let found = lists::compare(buffer, found, codes);
-    let found = lists::compare(buffer, found, more_codes);
-    let found = lists::compare_wide(buffer, found, sums);
-    lists::compare_wide(buffer, found, more_sums)
+) -> io::Result<Found> {
+    let found = lists::compare(input, buffer, found, codes)?;
+    let found = lists::compare(input, buffer, found, more_codes)?;
+    let found = lists::compare_wide(input, buffer, found, sums)?;
+    lists::compare_wide(input, buffer, found, more_sums)
 }
 
 // Makes the call on filled lists, and compares.
-fn compare_call(
+fn compare_call<R: Read>(
     call: u64,
     length: usize,
     sizes: &[u32],
     colours: &[u32],
+    input: &mut R,
     buffer: &mut [u8],
     reader: Reader,
-) -> Found {
+) -> io::Result<Found> {
     let mut codes = lists::make_filled();
     let mut more_codes = lists::make_filled();
     let mut sums = lists::make_filled_wide();
@@ -83,22 +87,28 @@ fn compare_call(
         &mut more_sums,
     );
     let found = lists::compare_number(
+        input,
         buffer,
         Found {
             differing: 0,
             reader,
         },
         value,
-    );
-    compare_lists(buffer, found, &codes, &more_codes, &sums, &more_sums)
+    )?;
+    compare_lists(input, buffer, found, &codes, &more_codes, &sums, &more_sums)
 }
 
-pub(crate) fn replay(call: u64, buffer: &mut [u8], reader: Reader) -> Found {
+pub(crate) fn replay<R: Read>(
+    call: u64,
+    input: &mut R,
+    buffer: &mut [u8],
+    reader: Reader,
+) -> io::Result<Found> {
     let mut sizes = lists::make();
     let mut colours = lists::make();
-    let length = demand(buffer, reader, u64::MAX);
+    let length = demand(input, buffer, reader, u64::MAX)?;
     let reader = length.reader;
-    let pair = lists::read_pair(buffer, reader, &mut sizes, &mut colours);
+    let pair = lists::read_pair(input, buffer, reader, &mut sizes, &mut colours)?;
     let first = pair.first;
     let second = pair.second;
     let reader = pair.reader;
@@ -107,6 +117,7 @@ pub(crate) fn replay(call: u64, buffer: &mut [u8], reader: Reader) -> Found {
         length.value as usize,
         &sizes[..first],
         &colours[..second],
+        input,
         buffer,
         reader,
     )

@@ -3,6 +3,8 @@
 use cases::calls;
 use replies::clues::CluesReply;
 use replies::count::CountReply;
+use std::io;
+use std::io::Read;
 use vectors::lists;
 use vectors::lists::{Found, Picture};
 use vectors::reader::Reader;
@@ -11,7 +13,7 @@ use vectors::reader::Reader;
 const NO_TOTAL: u64 = u64::MAX;
 
 // How many blocks a call wrote for the rows and for the columns.
-#[derive(Drop)]
+#[derive(Clone, Copy)]
 struct Totals {
     rows: u64,
     columns: u64,
@@ -65,32 +67,45 @@ fn call_clues(
     }
 }
 
-fn compare_totals(buffer: &mut [u8], reader: Reader, totals: Totals) -> Found {
+fn compare_totals<R: Read>(
+    input: &mut R,
+    buffer: &mut [u8],
+    reader: Reader,
+    totals: Totals,
+) -> io::Result<Found> {
     let found = lists::compare_number(
+        input,
         buffer,
         Found {
             differing: 0,
             reader,
         },
         totals.rows,
-    );
-    lists::compare_number(buffer, found, totals.columns)
+    )?;
+    lists::compare_number(input, buffer, found, totals.columns)
 }
 
-fn compare_direction(
+fn compare_direction<R: Read>(
+    input: &mut R,
     buffer: &mut [u8],
     found: Found,
     counts: &[u32],
     sizes: &[u32],
     colours: &[u32],
-) -> Found {
-    let found = lists::compare(buffer, found, counts);
-    let found = lists::compare(buffer, found, sizes);
-    lists::compare(buffer, found, colours)
+) -> io::Result<Found> {
+    let found = lists::compare(input, buffer, found, counts)?;
+    let found = lists::compare(input, buffer, found, sizes)?;
+    lists::compare(input, buffer, found, colours)
 }
 
 // Makes the call on filled lists, and compares.
-fn compare_call(call: u64, picture: Picture, codes: &[u32], buffer: &mut [u8]) -> Found {
+fn compare_call<R: Read>(
+    call: u64,
+    picture: Picture,
+    codes: &[u32],
+    input: &mut R,
+    buffer: &mut [u8],
+) -> io::Result<Found> {
     let mut row_counts = lists::make_filled();
     let mut row_sizes = lists::make_filled();
     let mut row_colours = lists::make_filled();
@@ -109,9 +124,10 @@ fn compare_call(call: u64, picture: Picture, codes: &[u32], buffer: &mut [u8]) -
         &mut column_colours,
     );
     let reader = picture.reader;
-    let found = compare_totals(buffer, reader, totals);
-    let found = compare_direction(buffer, found, &row_counts, &row_sizes, &row_colours);
+    let found = compare_totals(input, buffer, reader, totals)?;
+    let found = compare_direction(input, buffer, found, &row_counts, &row_sizes, &row_colours)?;
     compare_direction(
+        input,
         buffer,
         found,
         &column_counts,
@@ -120,9 +136,14 @@ fn compare_call(call: u64, picture: Picture, codes: &[u32], buffer: &mut [u8]) -
     )
 }
 
-pub(crate) fn replay(call: u64, buffer: &mut [u8], reader: Reader) -> Found {
+pub(crate) fn replay<R: Read>(
+    call: u64,
+    input: &mut R,
+    buffer: &mut [u8],
+    reader: Reader,
+) -> io::Result<Found> {
     let mut codes = lists::make();
-    let picture = lists::read_picture(buffer, reader, &mut codes);
+    let picture = lists::read_picture(input, buffer, reader, &mut codes)?;
     let count = picture.codes;
-    compare_call(call, picture, &codes[..count], buffer)
+    compare_call(call, picture, &codes[..count], input, buffer)
 }

@@ -3,6 +3,8 @@
 use cases::runs::run;
 use cases::{Ends, Head};
 use replies::runs::RunReply;
+use std::io;
+use std::io::Read;
 use vectors::lists::Found;
 use vectors::reader::Reader;
 use vectors::{bytes, lists};
@@ -13,30 +15,36 @@ const MEMO: usize = 4160;
 // The least stack of a run.
 const STACK: usize = 128;
 
-fn compare_reply(buffer: &mut [u8], reader: Reader, reply: RunReply) -> Found {
+fn compare_reply<R: Read>(
+    input: &mut R,
+    buffer: &mut [u8],
+    reader: Reader,
+    reply: RunReply,
+) -> io::Result<Found> {
     let found = Found {
         differing: 0,
         reader,
     };
-    let found = lists::compare_number(buffer, found, lists::widen(reply.number));
-    let found = lists::compare_number(buffer, found, lists::widen(reply.line_kind));
-    let found = lists::compare_number(buffer, found, reply.line_index as u64);
-    let found = lists::compare_number(buffer, found, reply.entries as u64);
-    lists::compare_number(buffer, found, reply.lines as u64)
+    let found = lists::compare_number(input, buffer, found, lists::widen(reply.number))?;
+    let found = lists::compare_number(input, buffer, found, lists::widen(reply.line_kind))?;
+    let found = lists::compare_number(input, buffer, found, reply.line_index as u64)?;
+    let found = lists::compare_number(input, buffer, found, reply.entries as u64)?;
+    lists::compare_number(input, buffer, found, reply.lines as u64)
 }
 
 // Compares an answer and what it leaves. The report was lent from `first` on.
-fn compare_rest(
+fn compare_rest<R: Read>(
+    input: &mut R,
     buffer: &mut [u8],
     reader: Reader,
     reply: RunReply,
     grid: &[u32],
     first: usize,
     report: &[u32],
-) -> Found {
-    let found = compare_reply(buffer, reader, reply);
-    let found = lists::compare(buffer, found, grid);
-    lists::compare_from(buffer, found, first, report)
+) -> io::Result<Found> {
+    let found = compare_reply(input, buffer, reader, reply)?;
+    let found = lists::compare(input, buffer, found, grid)?;
+    lists::compare_from(input, buffer, found, first, report)
 }
 
 // Makes the run with the report from `first` on.
@@ -64,7 +72,7 @@ fn make_run(
     )
 }
 
-fn compare_run(
+fn compare_run<R: Read>(
     call: u64,
     head: Head,
     ends: Ends,
@@ -74,24 +82,26 @@ fn compare_run(
     report: &mut [u32],
     memo: &mut [u8],
     stack: &mut [u32],
+    input: &mut R,
     buffer: &mut [u8],
     reader: Reader,
-) -> Found {
+) -> io::Result<Found> {
     let reply = make_run(call, head, ends, grid, clues, first, report, memo, stack);
-    compare_rest(buffer, reader, reply, grid, first, report)
+    compare_rest(input, buffer, reader, reply, grid, first, report)
 }
 
 // Lends the least memo and stack, and the report's least room with up to three entries more. What they hold goes by the case's number.
-fn replay_run(
+fn replay_run<R: Read>(
     case: usize,
     call: u64,
     head: Head,
     ends: Ends,
     grid: &mut [u32],
     clues: &[u32],
+    input: &mut R,
     buffer: &mut [u8],
     reader: Reader,
-) -> Found {
+) -> io::Result<Found> {
     let mut report = lists::make_filled_long();
     let mut memo = bytes::make_filled(case);
     let mut stack = lists::make_filled_stack(case);
@@ -110,16 +120,23 @@ fn replay_run(
         &mut report[..end],
         &mut memo[..bytes_end],
         &mut stack[..stack_end],
+        input,
         buffer,
         reader,
     )
 }
 
-pub(crate) fn replay(case: u64, call: u64, buffer: &mut [u8], reader: Reader) -> Found {
+pub(crate) fn replay<R: Read>(
+    case: u64,
+    call: u64,
+    input: &mut R,
+    buffer: &mut [u8],
+    reader: Reader,
+) -> io::Result<Found> {
     let mut grid = lists::make();
     let mut list = cases::make();
-    let board = cases::read_board(buffer, reader, &mut grid);
-    let clues = cases::read_clues(buffer, board.reader, &mut list);
+    let board = cases::read_board(input, buffer, reader, &mut grid)?;
+    let clues = cases::read_clues(input, buffer, board.reader, &mut list)?;
     let cells = board.cells;
     replay_run(
         case as usize,
@@ -128,6 +145,7 @@ pub(crate) fn replay(case: u64, call: u64, buffer: &mut [u8], reader: Reader) ->
         clues.ends,
         &mut grid[..cells],
         &list,
+        input,
         buffer,
         clues.reader,
     )

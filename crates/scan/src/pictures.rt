@@ -9,6 +9,7 @@ use pbm::read::read_pbm;
 use picture::CluesAnswer;
 use picture::binary::clues_from_solution;
 use rules::Refusal;
+use std::io;
 
 // The code of a white cell.
 const BLANK: u32 = 1;
@@ -29,6 +30,7 @@ fn make_cells() -> [u32; 4096]
 
 // Makes the clues of a picture in the lent lists, and writes its card.
 fn write_card(
+    rt: &impl Print,
     name: &[u8],
     width: usize,
     height: usize,
@@ -37,7 +39,7 @@ fn write_card(
     row_sizes: &mut [u32],
     column_counts: &mut [u32],
     column_sizes: &mut [u32],
-) {
+) -> io::Result<()> {
     let answer = clues_from_solution(
         width,
         height,
@@ -49,24 +51,31 @@ fn write_card(
         column_sizes,
     );
     match answer {
-        CluesAnswer::Refused(refusal) => write_refusal(name, refusal, false),
+        CluesAnswer::Refused(refusal) => write_refusal(rt, name, refusal, false),
         CluesAnswer::Done {
             rows: _,
             columns: _,
         } => {
-            write_heading(name, width, height);
-            write_list(b"\nrows\n", height, row_counts, row_sizes);
-            write_list(b"\ncolumns\n", width, column_counts, column_sizes);
+            write_heading(rt, name, width, height)?;
+            write_list(rt, b"\nrows\n", height, row_counts, row_sizes)?;
+            write_list(rt, b"\ncolumns\n", width, column_counts, column_sizes)
         }
     }
 }
 
-fn make_card(name: &[u8], width: usize, height: usize, codes: &[u32]) {
+fn make_card(
+    rt: &impl Print,
+    name: &[u8],
+    width: usize,
+    height: usize,
+    codes: &[u32],
+) -> io::Result<()> {
     let mut row_counts = make_counts();
     let mut row_sizes = make_cells();
     let mut column_counts = make_counts();
     let mut column_sizes = make_cells();
     write_card(
+        rt,
         name,
         width,
         height,
@@ -75,17 +84,17 @@ fn make_card(name: &[u8], width: usize, height: usize, codes: &[u32]) {
         &mut row_sizes,
         &mut column_counts,
         &mut column_sizes,
-    );
+    )
 }
 
 // Makes a card of a whole text.
-fn scan_whole(name: &[u8], text: &[u8], codes: &mut [u32]) {
+fn scan_whole(rt: &impl Print, name: &[u8], text: &[u8], codes: &mut [u32]) -> io::Result<()> {
     let answer = read_pbm(text, codes);
     match answer {
         PbmAnswer::Done { width, height } => {
-            make_card(name, width, height, &codes[..width * height])
+            make_card(rt, name, width, height, &codes[..width * height])
         }
-        PbmAnswer::Refused(refusal) => write_refusal(name, refusal, has_magic(text, b'4')),
+        PbmAnswer::Refused(refusal) => write_refusal(rt, name, refusal, has_magic(text, b'4')),
     }
 }
 
@@ -100,26 +109,25 @@ fn has_bad_side(answer: PbmAnswer) -> bool {
 
 // Tells what is wrong with a text that is longer than what was read of it. Whatever follows, it is refused with 11 where it does not begin with
 // P1, and with 1 where its whole lines have a bad side.
-fn judge_long(name: &[u8], text: &[u8], codes: &mut [u32]) {
+fn judge_long(rt: &impl Print, name: &[u8], text: &[u8], codes: &mut [u32]) -> io::Result<()> {
     if !has_magic(text, b'1') {
-        write_refusal(name, Refusal::BadText, has_magic(text, b'4'));
-        return;
+        return write_refusal(rt, name, Refusal::BadText, has_magic(text, b'4'));
     }
     let length = count_through(text, b'\n');
     let answer = read_pbm(&text[..length], codes);
     if has_bad_side(answer) {
-        write_refusal(name, Refusal::BadLength, false);
+        write_refusal(rt, name, Refusal::BadLength, false)
     } else {
-        write_fault(name, b"the text is longer than 65,535 bytes\n");
+        write_fault(rt, name, b"the text is longer than 65,535 bytes\n")
     }
 }
 
 // Makes a card of a text, if the whole of it was read.
-pub(crate) fn scan_text(name: &[u8], text: &[u8], whole: bool) {
+pub(crate) fn scan_text(rt: &impl Print, name: &[u8], text: &[u8], whole: bool) -> io::Result<()> {
     let mut codes = make_cells();
     if whole {
-        scan_whole(name, text, &mut codes);
+        scan_whole(rt, name, text, &mut codes)
     } else {
-        judge_long(name, text, &mut codes);
+        judge_long(rt, name, text, &mut codes)
     }
 }

@@ -1,9 +1,11 @@
 // Reads the text of a picture, and looks at the beginning of one.
 ghost use Rattle.std.specs.Prelude.{◌≤◌, length};
-ghost use Rattle.io.specs.Counts.{IsPrefixLen};
+ghost use Rattle.scan.specs.Counts.{IsPrefixLen};
+
+use std::io::Read;
 
 // How many bytes were read, whether the file ends with them, and whether it could not be read on.
-#[derive(Drop)]
+#[derive(Clone, Copy)]
 pub(crate) struct Reading {
     pub(crate) length: usize,
     pub(crate) whole: bool,
@@ -11,24 +13,30 @@ pub(crate) struct Reading {
 }
 
 // One read.
-fn read_some(file: i32, text: &mut [u8]) -> Reading
+fn read_some<R: Read>(input: &mut R, text: &mut [u8]) -> Reading
     ensures { result.length ≤ length text.new }
 {
-    let got = libc::read(file, text);
-    Reading {
-        length: io::count(got, text),
-        whole: got == 0,
-        failed: got < 0,
+    match input.read(text) {
+        Ok(length) => Reading {
+            length,
+            whole: length == 0,
+            failed: false,
+        },
+        Err(_) => Reading {
+            length: 0,
+            whole: false,
+            failed: true,
+        },
     }
 }
 
 // Reads a file to its end, or until the text is full.
-pub(crate) fn read_text(file: i32, text: &mut [u8]) -> Reading
+pub(crate) fn read_text<R: Read>(input: &mut R, text: &mut [u8]) -> Reading
     ensures { IsPrefixLen result.length text.new }
 {
     let mut length = 0;
     while length < text.len() {
-        let some = read_some(file, &mut text[length..]);
+        let some = read_some(input, &mut text[length..]);
         if some.length == 0 {
             return Reading {
                 length,

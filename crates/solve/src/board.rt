@@ -6,6 +6,7 @@ use crate::writing::write_text;
 use line::binary::set_of;
 use non::layout::ROOM;
 use non::palette::{BITS, word_at};
+use std::io;
 
 // The word of an open cell, `?`.
 const OPEN: u64 = 63;
@@ -102,34 +103,50 @@ fn lay_row(
     count
 }
 
-fn write_first(text: &[u8], count: usize) {
+fn write_first(rt: &impl Print, text: &[u8], count: usize) -> io::Result<()> {
     if count <= text.len() {
-        write_text(&text[0..count]);
+        return write_text(rt, &text[0..count]);
     }
+    Ok(())
 }
 
 fn write_row(
+    rt: &impl Print,
     cells: &[u32],
     coloured: bool,
     card: &[u32; ROOM],
     largest: u64,
     out: &mut [u8; 4096],
-) {
+) -> io::Result<()> {
     let count = lay_row(cells, coloured, card, largest, out);
-    write_first(out, count);
+    write_first(rt, out, count)
 }
 
-pub(crate) fn write_board(grid: &[u32], width: usize, coloured: bool, card: &[u32; ROOM]) {
+pub(crate) fn write_board(
+    rt: &impl Print,
+    grid: &[u32],
+    width: usize,
+    coloured: bool,
+    card: &[u32; ROOM],
+) -> io::Result<()> {
     if width == 0 {
-        return;
+        return Ok(());
     }
     let largest = largest_word(card);
     let mut out = [0u8; 4096];
     let mut from = 0;
     while width <= grid.len() - from {
-        write_row(&grid[from..from + width], coloured, card, largest, &mut out);
+        write_row(
+            rt,
+            &grid[from..from + width],
+            coloured,
+            card,
+            largest,
+            &mut out,
+        )?;
         from += width;
     }
+    Ok(())
 }
 
 // How many cells are open.

@@ -1,74 +1,90 @@
 // Solves cards in the .non format and shows their boards: those of the files that the arguments name, where `-` is standard input, or the
 // one on standard input.
 //
-// A program of this kind ends with status 0 always. So an answer begins with `bad card,` where a file is no card and with `unsolvable` where
-// a card has no solution, and it tells how many cells are open, where some are. solve.sh makes its status of that.
+// It ends with status 0 whatever the files hold, and with 1 only where its answer cannot be written. So an answer begins with `bad card,` where a
+// file is no card and with `unsolvable` where a card has no solution, and it tells how many cells are open, where some are. solve.sh makes its
+// status of that.
+#![tactic(auto)]
+
 mod board;
 mod solving;
 mod writing;
 
-use libc::STDIN_FILENO;
+ghost use Rattle.std.specs.Prelude.{◌≤◌, length};
+
 use non::Outcome;
 use non::faults::{Fault, write_fault};
 use non::layout::{ROOM, make};
+use std::env::FillError;
+use std::io::{ErrorKind, Read};
+use std::rt::{Env, Files};
+use std::{fs, io, str};
 use writing::{write_number, write_text};
 
 // The name of standard input.
 const INPUT: [u8; 14] = *b"standard input";
 
-fn write_bad(name: &[u8], what: &[u8]) {
-    write_text(b"bad card, ");
-    write_text(name);
-    write_text(what);
+fn write_bad(rt: &impl Print, name: &[u8], what: &[u8]) -> io::Result<()> {
+    write_text(rt, b"bad card, ")?;
+    write_text(rt, name)?;
+    write_text(rt, what)
 }
 
-fn write_bad_at(name: &[u8], place: &[u8], line: u32, fault: Fault) {
-    write_bad(name, place);
-    write_number(line as usize);
-    write_text(b": ");
-    write_fault(fault);
+fn write_bad_at(
+    rt: &impl Print,
+    name: &[u8],
+    place: &[u8],
+    line: u32,
+    fault: Fault,
+) -> io::Result<()> {
+    write_bad(rt, name, place)?;
+    write_number(rt, line as usize)?;
+    write_text(rt, b": ")?;
+    write_fault(rt, fault)
 }
 
 // Solves a card. One that the reader takes and the run refuses would be told with the run's number.
-fn solve_card(name: &[u8], card: &[u32; ROOM]) {
-    let refusal = solving::solve_card(card);
+fn solve_card(rt: &impl Print, name: &[u8], card: &[u32; ROOM]) -> io::Result<()> {
+    let refusal = solving::solve_card(rt, card)?;
     if refusal > 0 {
-        write_bad(name, b": the run refuses it with ");
-        write_number(refusal as usize);
-        write_text(b"\n");
+        write_bad(rt, name, b": the run refuses it with ")?;
+        write_number(rt, refusal as usize)?;
+        return write_text(rt, b"\n");
     }
+    Ok(())
 }
 
-fn solve_file(name: &[u8], file: i32) {
+fn solve_file<I: Read>(rt: &impl Print, name: &[u8], input: &mut I) -> io::Result<()> {
     let mut card = make();
-    let outcome = non::read_card(file, &mut card);
+    let outcome = non::read_card(input, &mut card);
     match outcome {
-        Outcome::Card => solve_card(name, &card),
-        Outcome::BadLine { fault, line } => write_bad_at(name, b", line ", line, fault),
+        Outcome::Card => solve_card(rt, name, &card),
+        Outcome::BadLine { fault, line } => write_bad_at(rt, name, b", line ", line, fault),
         Outcome::BadEnd { fault, line } => {
-            write_bad_at(name, b", end of the file after line ", line, fault)
+            write_bad_at(rt, name, b", end of the file after line ", line, fault)
         }
-        Outcome::Unreadable => write_bad(name, b": the file cannot be read\n"),
+        Outcome::Unreadable => write_bad(rt, name, b": the file cannot be read\n"),
     }
 }
 
 // Why a file was not opened.
-fn write_unopened(name: &[u8]) {
-    match os::errno() {
-        libc::ENOENT => write_bad(name, b": there is no such file\n"),
-        libc::EACCES => write_bad(name, b": the file may not be read\n"),
-        _ => write_bad(name, b": the file cannot be opened\n"),
+fn write_unopened(rt: &impl Print, name: &[u8], kind: ErrorKind) -> io::Result<()> {
+    match kind {
+        ErrorKind::NotFound => write_bad(rt, name, b": there is no such file\n"),
+        ErrorKind::PermissionDenied => write_bad(rt, name, b": the file may not be read\n"),
+        _ => write_bad(rt, name, b": the file cannot be opened\n"),
     }
 }
 
-fn solve_path(path: &[u8]) {
-    let file = os::open_read(path);
-    if file < 0 {
-        write_unopened(path);
-        return;
+// A name that is not UTF-8 is none that std can open.
+fn solve_path(rt: &(impl Files + Print), path: &[u8]) -> io::Result<()> {
+    let Ok(text) = str::from_utf8(path) else {
+        return write_unopened(rt, path, ErrorKind::InvalidFilename);
+    };
+    match fs::open(rt, text) {
+        Ok(mut file) => solve_file(rt, path, &mut file),
+        Err(error) => write_unopened(rt, path, error.kind()),
     }
-    solve_file(path, file);
-    libc::close(file);
 }
 
 fn is_input(path: &[u8]) -> bool {
@@ -79,43 +95,70 @@ fn is_input(path: &[u8]) -> bool {
 }
 
 // Where there are several cards, the name of each stands above its answer.
-fn write_name(name: &[u8], several: bool) {
+fn write_name(rt: &impl Print, name: &[u8], several: bool) -> io::Result<()> {
     if several {
-        write_text(b"== ");
-        write_text(name);
-        write_text(b" ==\n");
+        write_text(rt, b"== ")?;
+        write_text(rt, name)?;
+        return write_text(rt, b" ==\n");
     }
+    Ok(())
 }
 
-fn solve_named(path: &[u8], several: bool) {
+fn solve_named(rt: &(impl Files + Input + Print), path: &[u8], several: bool) -> io::Result<()> {
     if is_input(path) {
-        write_name(&INPUT, several);
-        solve_file(&INPUT, STDIN_FILENO);
+        write_name(rt, &INPUT, several)?;
+        solve_file(rt, &INPUT, &mut rt.reader())
     } else {
-        write_name(path, several);
-        solve_path(path);
+        write_name(rt, path, several)?;
+        solve_path(rt, path)
     }
 }
 
-fn solve_argument(argument: usize, several: bool) {
-    let mut path = io::buffer();
-    let length = os::arg(argument, &mut path);
-    solve_named(&path[..length], several);
+// Puts an argument at the front of a path, and counts its bytes: none where there is no such argument, or the path has no room for it.
+fn read_argument(rt: &impl Env, argument: usize, path: &mut [u8]) -> usize
+    ensures { result ≤ length path.new }
+{
+    match rt.arg(argument, path) {
+        Ok(length) => length,
+        Err(_) => 0,
+    }
 }
 
-fn solve_arguments(count: usize) {
+fn solve_argument(
+    rt: &(impl Env + Files + Input + Print),
+    argument: usize,
+    several: bool,
+) -> io::Result<()> {
+    let mut path = [0u8; 4096];
+    let length = read_argument(rt, argument, &mut path);
+    solve_named(rt, &path[..length], several)
+}
+
+fn solve_arguments(rt: &(impl Env + Files + Input + Print), count: usize) -> io::Result<()> {
     let mut i = 1;
     while i < count {
-        solve_argument(i, count > 2);
+        solve_argument(rt, i, count > 2)?;
         i += 1;
     }
+    Ok(())
 }
 
-fn main() {
-    let count = os::arg_count();
+// How many arguments there are; the first is the program's name.
+fn count_arguments(rt: &impl Env) -> usize {
+    let mut start = [0u8; 1];
+    for i in 0..usize::MAX {
+        if let Err(FillError::NotPresent) = rt.arg(i, &mut start) {
+            return i;
+        }
+    }
+    usize::MAX
+}
+
+fn main(rt: HostRuntime) -> io::Result<()> {
+    let count = count_arguments(&rt);
     if count < 2 {
-        solve_file(&INPUT, STDIN_FILENO);
+        solve_file(&rt, &INPUT, &mut rt.reader())
     } else {
-        solve_arguments(count);
+        solve_arguments(&rt, count)
     }
 }

@@ -6,6 +6,7 @@ use non::palette::{BITS, BLACK, word_at};
 use propagation::{binary, multicolor};
 use rules::{LinePosition, refusal_number};
 use run::RunAnswer;
+use std::io;
 use std::num::wrapping_add_usize;
 
 // The room that a run asks for: a report in which 31 colours of each of 4,096 cells go, the memo, and the stack.
@@ -118,64 +119,81 @@ fn run_card(
     run_binary(card, grid, report, memo, stack)
 }
 
-fn write_refusing(name: &[u8], index: usize, place: u32) {
-    write_text(b"unsolvable (8): ");
-    write_text(name);
-    write_number(wrapping_add_usize(index, 1));
-    write_text(b" cannot be filled, its clue is in line ");
-    write_number(place as usize);
-    write_text(b" of the file\nhalf-solved board:\n");
+fn write_refusing(rt: &impl Print, name: &[u8], index: usize, place: u32) -> io::Result<()> {
+    write_text(rt, b"unsolvable (8): ")?;
+    write_text(rt, name)?;
+    write_number(rt, wrapping_add_usize(index, 1))?;
+    write_text(rt, b" cannot be filled, its clue is in line ")?;
+    write_number(rt, place as usize)?;
+    write_text(rt, b" of the file\nhalf-solved board:\n")
 }
 
-fn write_line(line: LinePosition, card: &[u32; ROOM]) {
+fn write_line(rt: &impl Print, line: LinePosition, card: &[u32; ROOM]) -> io::Result<()> {
     match line {
-        LinePosition::Row(y) => write_refusing(b"row ", y.0, place_of(card, ROWS, y.0)),
-        LinePosition::Column(x) => write_refusing(b"column ", x.0, place_of(card, COLUMNS, x.0)),
+        LinePosition::Row(y) => write_refusing(rt, b"row ", y.0, place_of(card, ROWS, y.0)),
+        LinePosition::Column(x) => write_refusing(
+            rt,
+            b"column ",
+            x.0,
+            place_of(card, COLUMNS, x.0),
+        ),
     }
 }
 
-fn write_open(open: usize, cells: usize) {
-    write_number(open);
-    write_text(b" of ");
-    write_number(cells);
-    write_text(b" cells are open, ");
+fn write_open(rt: &impl Print, open: usize, cells: usize) -> io::Result<()> {
+    write_number(rt, open)?;
+    write_text(rt, b" of ")?;
+    write_number(rt, cells)?;
+    write_text(rt, b" cells are open, ")
 }
 
-fn write_lines(lines: usize) {
-    write_number(lines);
-    write_text(b" lines solved\n");
+fn write_lines(rt: &impl Print, lines: usize) -> io::Result<()> {
+    write_number(rt, lines)?;
+    write_text(rt, b" lines solved\n")
 }
 
 // Shows the board, and counts its open cells.
-fn show_board(card: &[u32; ROOM], coloured: bool, grid: &[u32]) -> usize {
-    write_board(grid, side_of(card, COLUMNS), coloured, card);
-    count_open(grid, coloured)
+fn show_board(
+    rt: &impl Print,
+    card: &[u32; ROOM],
+    coloured: bool,
+    grid: &[u32],
+) -> io::Result<usize> {
+    write_board(rt, grid, side_of(card, COLUMNS), coloured, card)?;
+    Ok(count_open(grid, coloured))
 }
 
 // Shows what a run answers. Nothing is shown where it refuses the card, and its number is told; else 0.
-fn show_answer(answer: RunAnswer, card: &[u32; ROOM], coloured: bool, grid: &[u32]) -> u32 {
+fn show_answer(
+    rt: &impl Print,
+    answer: RunAnswer,
+    card: &[u32; ROOM],
+    coloured: bool,
+    grid: &[u32],
+) -> io::Result<u32> {
     match answer {
         RunAnswer::Done { entries: _, lines } => {
-            let open = show_board(card, coloured, grid);
+            let open = show_board(rt, card, coloured, grid)?;
             if open == 0 {
-                write_text(b"solved: every cell is known, ");
+                write_text(rt, b"solved: every cell is known, ")?;
             } else {
-                write_open(open, grid.len());
+                write_open(rt, open, grid.len())?;
             }
-            write_lines(lines);
-            0
+            write_lines(rt, lines)?;
+            Ok(0)
         }
         RunAnswer::Unsolvable {
             line,
             entries: _,
             lines,
         } => {
-            write_line(line, card);
-            write_open(show_board(card, coloured, grid), grid.len());
-            write_lines(lines);
-            0
+            write_line(rt, line, card)?;
+            let open = show_board(rt, card, coloured, grid)?;
+            write_open(rt, open, grid.len())?;
+            write_lines(rt, lines)?;
+            Ok(0)
         }
-        RunAnswer::Refused(refusal) => refusal_number(refusal),
+        RunAnswer::Refused(refusal) => Ok(refusal_number(refusal)),
     }
 }
 
@@ -187,26 +205,31 @@ fn first_cell(card: &[u32; ROOM], coloured: bool) -> u32 {
     0
 }
 
-fn solve_grid(card: &[u32; ROOM], grid: &mut [u32]) -> u32 {
+fn solve_grid(rt: &impl Print, card: &[u32; ROOM], grid: &mut [u32]) -> io::Result<u32> {
     let coloured = is_coloured(card);
     fill(grid, first_cell(card, coloured));
     let mut report = [0u32; REPORT];
     let mut memo = [0u8; MEMO];
     let mut stack = [0u32; STACK];
     let answer = run_card(card, coloured, grid, &mut report, &mut memo, &mut stack);
-    show_answer(answer, card, coloured, grid)
+    show_answer(rt, answer, card, coloured, grid)
 }
 
 // Solves a card on the first cells of a grid.
-fn solve_first(card: &[u32; ROOM], grid: &mut [u32], cells: usize) -> u32 {
+fn solve_first(
+    rt: &impl Print,
+    card: &[u32; ROOM],
+    grid: &mut [u32],
+    cells: usize,
+) -> io::Result<u32> {
     if cells <= grid.len() {
-        return solve_grid(card, &mut grid[0..cells]);
+        return solve_grid(rt, card, &mut grid[0..cells]);
     }
-    0
+    Ok(0)
 }
 
 // Solves a card and shows its board. The answer is 0, or the number of a run that refuses it.
-pub(crate) fn solve_card(card: &[u32; ROOM]) -> u32 {
+pub(crate) fn solve_card(rt: &impl Print, card: &[u32; ROOM]) -> io::Result<u32> {
     let mut grid = [0u32; 4096];
-    solve_first(card, &mut grid, count_cells(card))
+    solve_first(rt, card, &mut grid, count_cells(card))
 }

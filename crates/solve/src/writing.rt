@@ -1,10 +1,10 @@
-// Writes texts and numbers to standard output.
-use libc::STDOUT_FILENO;
+// Writes texts and numbers through the handle that a function is passed.
+use std::io;
 
-pub(crate) fn write_text(text: &[u8]) {
-    io::write_all(STDOUT_FILENO, text);
+pub(crate) fn write_text(rt: &impl Print, text: &[u8]) -> io::Result<()> {
+    rt.write_all(text)
 }
 
-pub(crate) fn write_number(number: usize) {
-    io::print_decimal(STDOUT_FILENO, number as u64);
+pub(crate) fn write_number(rt: &impl Print, number: usize) -> io::Result<()> {
+    rt.print(number)
 }

@@ -1,11 +1,13 @@
 // Lists of bytes that a replayed call works in, reads or writes: made, filled with what the call could take for its own, read from a file of
 // numbers, and looked at again.
-ghost use Rattle.std.specs.Prelude.{◌≡◌, length};
-ghost use Rattle.io.specs.Counts.{IsPrefixLen};
+ghost use Rattle.std.specs.Prelude.{◌≡◌, length, IfOk};
+ghost use Rattle.vectors.specs.Counts.{IsPrefixLen};
 ghost use Rattle.vectors.specs.Fillers.{byte_at, Filled};
 
 use crate::lists::{Found, Listed, add_number, expect};
 use crate::reader::{Reader, demand};
+use std::io;
+use std::io::Read;
 
 // The largest entry of a list of bytes.
 const MOST_BYTE: u64 = 255;
@@ -69,20 +71,25 @@ pub(crate) fn written(turn: usize, list: &[u8]) -> usize
 }
 
 // Reads a count, and as many bytes into the front of the list. A count that the list has no room for is a fault.
-pub fn read(buffer: &mut [u8], reader: Reader, list: &mut [u8]) -> Listed
-    ensures { IsPrefixLen result.count list.new }
+pub fn read<R: Read>(
+    input: &mut R,
+    buffer: &mut [u8],
+    reader: Reader,
+    list: &mut [u8],
+) -> io::Result<Listed>
+    ensures { IfOk result (λ r. IsPrefixLen r.count list.new) }
 {
-    let counted = demand(buffer, reader, list.len() as u64);
+    let counted = demand(input, buffer, reader, list.len() as u64)?;
     let count = counted.value as usize;
     let mut reader = counted.reader;
     let mut i = 0;
     while i < count {
-        let entry = demand(buffer, reader, MOST_BYTE);
+        let entry = demand(input, buffer, reader, MOST_BYTE)?;
         list[i] = entry.value as u8;
         reader = entry.reader;
         i += 1;
     }
-    Listed { count, reader }
+    Ok(Listed { count, reader })
 }
 
 fn widen(byte: u8) -> u64 {
@@ -91,16 +98,17 @@ fn widen(byte: u8) -> u64 {
 
 // Compares how many bytes a call says that it wrote with the next number of the file, and a list that was filled, and lent to the call from
 // `first` on, with the bytes that come after it: these, and the filler before and after them.
-pub fn compare_from(
+pub fn compare_from<R: Read>(
+    input: &mut R,
     buffer: &mut [u8],
     found: Found,
     turn: usize,
     first: usize,
     told: usize,
     list: &[u8],
-) -> Found {
+) -> io::Result<Found> {
     let reader = found.reader;
-    let counted = demand(buffer, reader, list.len() as u64);
+    let counted = demand(input, buffer, reader, list.len() as u64)?;
     let count = counted.value as usize;
     let mut found = add_number(found, told as u64, counted);
     let mut i = 0;
@@ -111,8 +119,16 @@ pub fn compare_from(
         found = add_number(
             found,
             widen(list[at]),
-            expect(buffer, reader, first, at, count, widen(filler(turn, at))),
+            expect(
+                input,
+                buffer,
+                reader,
+                first,
+                at,
+                count,
+                widen(filler(turn, at)),
+            )?,
         );
     }
-    found
+    Ok(found)
 }

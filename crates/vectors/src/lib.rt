@@ -1,4 +1,6 @@
-// Files of numbers that a program is replayed on: reading them from standard input, comparing lists with them, and telling the outcome.
+// Files of numbers that a program is replayed on: reading them, comparing lists with them, and telling the outcome.
+#![tactic(auto)]
+
 pub mod bytes;
 pub mod lists;
 pub mod reader;

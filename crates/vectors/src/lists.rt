@@ -1,23 +1,25 @@
 // Lists that a replayed call reads and writes: made, filled, read from a file of numbers, and compared with one.
-ghost use Rattle.std.specs.Prelude.{◌≡◌, length};
-ghost use Rattle.io.specs.Counts.{IsPrefixLen};
+ghost use Rattle.std.specs.Prelude.{◌≡◌, length, IfOk};
+ghost use Rattle.vectors.specs.Counts.{IsPrefixLen};
 ghost use Rattle.vectors.specs.Fillers.{filler_at, Filled};
 
 use crate::reader::{Demanded, Reader, demand};
+use std::io;
+use std::io::Read;
 use std::num::wrapping_add_u64;
 
 // The largest entry of a list of 32-bit numbers.
 pub const MOST_ENTRY: u64 = 4294967295;
 
 // How many entries of a list were read.
-#[derive(Drop)]
+#[derive(Clone, Copy)]
 pub struct Listed {
     pub count: usize,
     pub reader: Reader,
 }
 
 // How many entries of two lists were read.
-#[derive(Drop)]
+#[derive(Clone, Copy)]
 pub struct Pair {
     pub first: usize,
     pub second: usize,
@@ -25,7 +27,7 @@ pub struct Pair {
 }
 
 // How many cells, sizes and colours of a line were read.
-#[derive(Drop)]
+#[derive(Clone, Copy)]
 pub struct Line {
     pub cells: usize,
     pub sizes: usize,
@@ -34,7 +36,7 @@ pub struct Line {
 }
 
 // A picture that was read, and how many codes it has.
-#[derive(Drop)]
+#[derive(Clone, Copy)]
 pub struct Picture {
     pub width: usize,
     pub height: usize,
@@ -44,7 +46,7 @@ pub struct Picture {
 }
 
 // How many numbers of a case are not as the file says, up to where reading is.
-#[derive(Drop)]
+#[derive(Clone, Copy)]
 pub struct Found {
     pub differing: u64,
     pub reader: Reader,
@@ -203,102 +205,120 @@ pub(crate) fn written_wide(list: &[u64]) -> usize
 }
 
 // Reads a count, and as many entries into the front of the list. A count that the list has no room for is a fault.
-pub fn read(buffer: &mut [u8], reader: Reader, list: &mut [u32]) -> Listed
-    ensures { IsPrefixLen result.count list.new }
+pub fn read<R: Read>(
+    input: &mut R,
+    buffer: &mut [u8],
+    reader: Reader,
+    list: &mut [u32],
+) -> io::Result<Listed>
+    ensures { IfOk result (λ r. IsPrefixLen r.count list.new) }
 {
-    let counted = demand(buffer, reader, list.len() as u64);
+    let counted = demand(input, buffer, reader, list.len() as u64)?;
     let count = counted.value as usize;
     let mut reader = counted.reader;
     let mut i = 0;
     while i < count {
-        let entry = demand(buffer, reader, MOST_ENTRY);
+        let entry = demand(input, buffer, reader, MOST_ENTRY)?;
         list[i] = entry.value as u32;
         reader = entry.reader;
         i += 1;
     }
-    Listed { count, reader }
+    Ok(Listed { count, reader })
 }
 
 // Reads two lists, one after the other.
-pub fn read_pair(buffer: &mut [u8], reader: Reader, first: &mut [u32], second: &mut [u32]) -> Pair
-    ensures prefix_len { IsPrefixLen result.first first.new }
-    ensures prefix_len_2 { IsPrefixLen result.second second.new }
+pub fn read_pair<R: Read>(
+    input: &mut R,
+    buffer: &mut [u8],
+    reader: Reader,
+    first: &mut [u32],
+    second: &mut [u32],
+) -> io::Result<Pair>
+    ensures first { IfOk result (λ r. IsPrefixLen r.first first.new) }
+    ensures second { IfOk result (λ r. IsPrefixLen r.second second.new) }
 {
-    let one = read(buffer, reader, first);
+    let one = read(input, buffer, reader, first)?;
     let reader = one.reader;
-    let two = read(buffer, reader, second);
+    let two = read(input, buffer, reader, second)?;
     let reader = two.reader;
-    Pair {
+    Ok(Pair {
         first: one.count,
         second: two.count,
         reader,
-    }
+    })
 }
 
 // Reads a line: its cells, and the sizes and colours of its blocks.
-pub fn read_line(
+pub fn read_line<R: Read>(
+    input: &mut R,
     buffer: &mut [u8],
     reader: Reader,
     cells: &mut [u32],
     sizes: &mut [u32],
     colours: &mut [u32],
-) -> Line
-    ensures prefix_len { IsPrefixLen result.cells cells.new }
-    ensures prefix_len_2 { IsPrefixLen result.sizes sizes.new }
-    ensures prefix_len_3 { IsPrefixLen result.colours colours.new }
+) -> io::Result<Line>
+    ensures cells { IfOk result (λ r. IsPrefixLen r.cells cells.new) }
+    ensures sizes { IfOk result (λ r. IsPrefixLen r.sizes sizes.new) }
+    ensures colours { IfOk result (λ r. IsPrefixLen r.colours colours.new) }
 {
-    let listed = read(buffer, reader, cells);
+    let listed = read(input, buffer, reader, cells)?;
     let reader = listed.reader;
-    let pair = read_pair(buffer, reader, sizes, colours);
+    let pair = read_pair(input, buffer, reader, sizes, colours)?;
     let reader = pair.reader;
-    Line {
+    Ok(Line {
         cells: listed.count,
         sizes: pair.first,
         colours: pair.second,
         reader,
-    }
+    })
 }
 
 // Reads a picture: its sides, the blank code, and the codes.
-pub fn read_picture(buffer: &mut [u8], reader: Reader, codes: &mut [u32]) -> Picture
-    ensures { IsPrefixLen result.codes codes.new }
+pub fn read_picture<R: Read>(
+    input: &mut R,
+    buffer: &mut [u8],
+    reader: Reader,
+    codes: &mut [u32],
+) -> io::Result<Picture>
+    ensures { IfOk result (λ r. IsPrefixLen r.codes codes.new) }
 {
-    let width = demand(buffer, reader, u64::MAX);
+    let width = demand(input, buffer, reader, u64::MAX)?;
     let reader = width.reader;
-    let height = demand(buffer, reader, u64::MAX);
+    let height = demand(input, buffer, reader, u64::MAX)?;
     let reader = height.reader;
-    let blank = demand(buffer, reader, MOST_ENTRY);
+    let blank = demand(input, buffer, reader, MOST_ENTRY)?;
     let reader = blank.reader;
-    let list = read(buffer, reader, codes);
+    let list = read(input, buffer, reader, codes)?;
     let reader = list.reader;
-    Picture {
+    Ok(Picture {
         width: width.value as usize,
         height: height.value as usize,
         blank: blank.value as u32,
         codes: list.count,
         reader,
-    }
+    })
 }
 
 // What a list with `count` entries from `first` on should hold at an index: the next number of the file, and elsewhere what it was filled
 // with.
-pub(crate) fn expect(
+pub(crate) fn expect<R: Read>(
+    input: &mut R,
     buffer: &mut [u8],
     reader: Reader,
     first: usize,
     index: usize,
     count: usize,
     filler: u64,
-) -> Demanded {
+) -> io::Result<Demanded> {
     if index >= first {
         if index - first < count {
-            return demand(buffer, reader, u64::MAX);
+            return demand(input, buffer, reader, u64::MAX);
         }
     }
-    Demanded {
+    Ok(Demanded {
         value: filler,
         reader,
-    }
+    })
 }
 
 // One number more that a call gave, and the number that the file says.
@@ -317,16 +337,27 @@ pub(crate) fn add_number(found: Found, given: u64, expected: Demanded) -> Found 
 }
 
 // Compares a number that a call gave with the next one of the file.
-pub fn compare_number(buffer: &mut [u8], found: Found, given: u64) -> Found {
+pub fn compare_number<R: Read>(
+    input: &mut R,
+    buffer: &mut [u8],
+    found: Found,
+    given: u64,
+) -> io::Result<Found> {
     let reader = found.reader;
-    add_number(found, given, demand(buffer, reader, u64::MAX))
+    Ok(add_number(found, given, demand(input, buffer, reader, u64::MAX)?))
 }
 
 // Compares a list that was filled, and lent to a call from `first` on, with the list that comes next in the file: its entries, and the
 // filler before and after them.
-pub fn compare_from(buffer: &mut [u8], found: Found, first: usize, list: &[u32]) -> Found {
+pub fn compare_from<R: Read>(
+    input: &mut R,
+    buffer: &mut [u8],
+    found: Found,
+    first: usize,
+    list: &[u32],
+) -> io::Result<Found> {
     let reader = found.reader;
-    let counted = demand(buffer, reader, list.len() as u64);
+    let counted = demand(input, buffer, reader, list.len() as u64)?;
     let count = counted.value as usize;
     let after = counted.reader;
     let mut found = Found {
@@ -341,20 +372,30 @@ pub fn compare_from(buffer: &mut [u8], found: Found, first: usize, list: &[u32])
         found = add_number(
             found,
             widen(list[at]),
-            expect(buffer, reader, first, at, count, widen(filler(at))),
+            expect(input, buffer, reader, first, at, count, widen(filler(at)))?,
         );
     }
-    found
+    Ok(found)
 }
 
 // The same of a list that was lent whole.
-pub fn compare(buffer: &mut [u8], found: Found, list: &[u32]) -> Found {
-    compare_from(buffer, found, 0, list)
+pub fn compare<R: Read>(
+    input: &mut R,
+    buffer: &mut [u8],
+    found: Found,
+    list: &[u32],
+) -> io::Result<Found> {
+    compare_from(input, buffer, found, 0, list)
 }
 
-pub fn compare_wide(buffer: &mut [u8], found: Found, list: &[u64]) -> Found {
+pub fn compare_wide<R: Read>(
+    input: &mut R,
+    buffer: &mut [u8],
+    found: Found,
+    list: &[u64],
+) -> io::Result<Found> {
     let reader = found.reader;
-    let counted = demand(buffer, reader, list.len() as u64);
+    let counted = demand(input, buffer, reader, list.len() as u64)?;
     let count = counted.value as usize;
     let after = counted.reader;
     let mut found = Found {
@@ -369,8 +410,8 @@ pub fn compare_wide(buffer: &mut [u8], found: Found, list: &[u64]) -> Found {
         found = add_number(
             found,
             list[at],
-            expect(buffer, reader, 0, at, count, widen(filler(at))),
+            expect(input, buffer, reader, 0, at, count, widen(filler(at)))?,
         );
     }
-    found
+    Ok(found)
 }

@@ -1,12 +1,13 @@
-// Reads a file of numbers from standard input, in pieces as large as the buffer that the caller lends.
+// Reads a file of numbers from a reader, as standard input, in pieces as large as the buffer that the caller lends.
 //
 // Such a file is decimal numbers below 2^64, separated by blanks, tabs and line ends; `#` starts a comment to the end of its line.
-ghost use Rattle.std.specs.Prelude.{◌≡◌, ◌≤◌, true};
+ghost use Rattle.std.specs.Prelude.{◌≡◌, ◌≤◌, true, IfOk};
 
-use libc::STDIN_FILENO;
+use std::io;
+use std::io::Read;
 
 // How far reading is: the bytes of the buffer from `at` to `filled` are still to be used. A fault stays.
-#[derive(Drop)]
+#[derive(Clone, Copy)]
 pub struct Reader {
     at: usize,
     filled: usize,
@@ -14,28 +15,28 @@ pub struct Reader {
 }
 
 // What comes next in the file. A fault is a strange byte or a number that is too large.
-#[derive(Drop)]
+#[derive(Clone, Copy)]
 pub enum Word {
     Number(u64),
     End,
     Fault,
 }
 
-#[derive(Drop)]
+#[derive(Clone, Copy)]
 pub struct Next {
     pub word: Word,
     pub reader: Reader,
 }
 
 // A number that had to come next; 0 after a fault.
-#[derive(Drop)]
+#[derive(Clone, Copy)]
 pub struct Demanded {
     pub value: u64,
     pub reader: Reader,
 }
 
 // What the next byte means.
-#[derive(Drop)]
+#[derive(Clone, Copy)]
 enum Kind {
     Digit(u64),
     Blank,
@@ -45,14 +46,14 @@ enum Kind {
     End,
 }
 
-#[derive(Drop)]
+#[derive(Clone, Copy)]
 struct Seen {
     kind: Kind,
     reader: Reader,
 }
 
 // What the next byte makes of the number before it.
-#[derive(Drop)]
+#[derive(Clone, Copy)]
 enum Step {
     Longer(u64),
     Whole,
@@ -93,17 +94,17 @@ fn kind_of(byte: u8) -> Kind {
 }
 
 // Looks at the next byte, and reads a piece more where the buffer is used up.
-fn see(buffer: &mut [u8], reader: Reader) -> Seen {
+fn see<R: Read>(input: &mut R, buffer: &mut [u8], reader: Reader) -> io::Result<Seen> {
     let at = reader.at;
     if at < reader.filled {
         if at < buffer.len() {
-            return Seen {
+            return Ok(Seen {
                 kind: kind_of(buffer[at]),
                 reader,
-            };
+            });
         }
     }
-    let filled = io::read_full(STDIN_FILENO, buffer);
+    let filled = input.read(buffer)?;
     let faulty = reader.faulty;
     let reader = Reader {
         at: 0,
@@ -111,15 +112,15 @@ fn see(buffer: &mut [u8], reader: Reader) -> Seen {
         faulty,
     };
     if filled == 0 {
-        return Seen {
+        return Ok(Seen {
             kind: Kind::End,
             reader,
-        };
+        });
     }
-    Seen {
+    Ok(Seen {
         kind: kind_of(buffer[0]),
         reader,
-    }
+    })
 }
 
 // The place after the byte just seen.
@@ -153,8 +154,8 @@ fn is_space(kind: Kind) -> bool {
 }
 
 // Goes past blanks and comments. The count of turns only shows that the loop ends, since nothing says that an input does.
-fn skip_space(buffer: &mut [u8], reader: Reader) -> Seen {
-    let mut seen = see(buffer, reader);
+fn skip_space<R: Read>(input: &mut R, buffer: &mut [u8], reader: Reader) -> io::Result<Seen> {
+    let mut seen = see(input, buffer, reader)?;
     let mut comment = false;
     let mut turns = u64::MAX;
     while turns > 0 {
@@ -163,12 +164,12 @@ fn skip_space(buffer: &mut [u8], reader: Reader) -> Seen {
         comment = is_comment(kind, comment);
         if !comment {
             if !is_space(kind) {
-                return seen;
+                return Ok(seen);
             }
         }
-        seen = see(buffer, pass(seen.reader));
+        seen = see(input, buffer, pass(seen.reader))?;
     }
-    seen
+    Ok(seen)
 }
 
 // The number with one digit more, if it is below 2^64.
@@ -198,13 +199,13 @@ fn answer_fault(reader: Reader) -> Next {
 }
 
 // Reads a number whose first digit is next.
-fn read_digits(buffer: &mut [u8], first: Reader) -> Next {
+fn read_digits<R: Read>(input: &mut R, buffer: &mut [u8], first: Reader) -> io::Result<Next> {
     let mut reader = first;
     let mut value = 0;
     let mut digits = 0;
     while digits <= MOST_DIGITS {
         digits += 1;
-        let seen = see(buffer, reader);
+        let seen = see(input, buffer, reader)?;
         let kind = seen.kind;
         reader = seen.reader;
         let step = step_on(value, kind);
@@ -214,49 +215,54 @@ fn read_digits(buffer: &mut [u8], first: Reader) -> Next {
                 reader = pass(reader);
             }
             Step::Whole => {
-                return Next {
+                return Ok(Next {
                     word: Word::Number(value),
                     reader,
-                };
+                });
             }
-            Step::Broken => return answer_fault(reader),
+            Step::Broken => return Ok(answer_fault(reader)),
         }
     }
-    answer_fault(reader)
+    Ok(answer_fault(reader))
 }
 
 // The next number of the file, or its end. After a fault every answer is a fault.
-pub fn read_word(buffer: &mut [u8], reader: Reader) -> Next {
+pub fn read_word<R: Read>(input: &mut R, buffer: &mut [u8], reader: Reader) -> io::Result<Next> {
     if reader.faulty {
-        return answer_fault(reader);
+        return Ok(answer_fault(reader));
     }
-    let seen = skip_space(buffer, reader);
+    let seen = skip_space(input, buffer, reader)?;
     let kind = seen.kind;
     let reader = seen.reader;
     match kind {
-        Kind::Digit(_) => read_digits(buffer, reader),
-        Kind::End => Next {
+        Kind::Digit(_) => read_digits(input, buffer, reader),
+        Kind::End => Ok(Next {
             word: Word::End,
             reader,
-        },
-        _ => answer_fault(reader),
+        }),
+        _ => Ok(answer_fault(reader)),
     }
 }
 
 // The next number, which has to be there and be at most `most`: else a fault.
-pub fn demand(buffer: &mut [u8], reader: Reader, most: u64) -> Demanded
-    ensures { result.value ≤ most }
+pub fn demand<R: Read>(
+    input: &mut R,
+    buffer: &mut [u8],
+    reader: Reader,
+    most: u64,
+) -> io::Result<Demanded>
+    ensures { IfOk result (λ r. r.value ≤ most) }
 {
-    let next = read_word(buffer, reader);
+    let next = read_word(input, buffer, reader)?;
     let word = next.word;
     let reader = next.reader;
     if let Word::Number(value) = word {
         if value <= most {
-            return Demanded { value, reader };
+            return Ok(Demanded { value, reader });
         }
     }
-    Demanded {
+    Ok(Demanded {
         value: 0,
         reader: fail(reader),
-    }
+    })
 }

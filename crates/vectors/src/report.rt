@@ -1,15 +1,15 @@
 // Counts the cases of a replay, by the numbers of the calls, and tells the outcome on standard output.
-use libc::STDOUT_FILENO;
+use std::io;
 use std::num::wrapping_add_u64;
 
-pub fn write_text(text: &[u8]) {
-    io::write_all(STDOUT_FILENO, text);
+pub fn write_text(rt: &impl Print, text: &[u8]) -> io::Result<()> {
+    rt.write_all(text)
 }
 
 // A blank and a number.
-pub fn write_number(number: u64) {
-    write_text(b" ");
-    io::print_decimal(STDOUT_FILENO, number);
+pub fn write_number(rt: &impl Print, number: u64) -> io::Result<()> {
+    write_text(rt, b" ")?;
+    rt.print(number)
 }
 
 // Counts one case more of a call.
@@ -39,36 +39,47 @@ fn sum(counts: &[u64]) -> u64 {
 }
 
 // The number of a case that differs, and how many of its numbers do. Cases are numbered from 1 as they stand in the file.
-pub fn write_difference(case: u64, call: u64, differing: u64) {
-    write_text(b"case");
-    write_number(case);
-    write_text(b" of call");
-    write_number(call);
-    write_text(b" differs in");
-    write_number(differing);
-    write_text(b" numbers\n");
+pub fn write_difference(rt: &impl Print, case: u64, call: u64, differing: u64) -> io::Result<()> {
+    write_text(rt, b"case")?;
+    write_number(rt, case)?;
+    write_text(rt, b" of call")?;
+    write_number(rt, call)?;
+    write_text(rt, b" differs in")?;
+    write_number(rt, differing)?;
+    write_text(rt, b" numbers\n")
 }
 
-fn write_tally(name: &[u8], cases: u64, differing: u64) {
-    write_text(name);
-    write_text(b":");
-    write_number(cases);
-    write_text(b" cases,");
-    write_number(differing);
-    write_text(b" differ\n");
+fn write_tally(rt: &impl Print, name: &[u8], cases: u64, differing: u64) -> io::Result<()> {
+    write_text(rt, name)?;
+    write_text(rt, b":")?;
+    write_number(rt, cases)?;
+    write_text(rt, b" cases,")?;
+    write_number(rt, differing)?;
+    write_text(rt, b" differ\n")
 }
 
 // How many cases of a call were replayed, and how many of them differ.
-pub fn write_call(name: &[u8], call: usize, cases: &[u64], differing: &[u64]) {
-    write_tally(name, counted(cases, call), counted(differing, call));
+pub fn write_call(
+    rt: &impl Print,
+    name: &[u8],
+    call: usize,
+    cases: &[u64],
+    differing: &[u64],
+) -> io::Result<()> {
+    write_tally(rt, name, counted(cases, call), counted(differing, call))
 }
 
 // The same of all calls, and whether the whole input was read.
-pub fn write_end(cases: &[u64], differing: &[u64], faulty: bool) {
-    write_tally(b"all calls", sum(cases), sum(differing));
+pub fn write_end(
+    rt: &impl Print,
+    cases: &[u64],
+    differing: &[u64],
+    faulty: bool,
+) -> io::Result<()> {
+    write_tally(rt, b"all calls", sum(cases), sum(differing))?;
     if faulty {
-        write_text(b"the input is broken: it was not read to its end\n");
+        write_text(rt, b"the input is broken: it was not read to its end\n")
     } else {
-        write_text(b"the input was read to its end\n");
+        write_text(rt, b"the input was read to its end\n")
     }
 }

@@ -4,14 +4,14 @@ ghost use Rattle.std.specs.Prelude.{◌<◌, ◌≤◌, length};
 use crate::bytes;
 use crate::lists::{widen, written, written_wide};
 use crate::report::{write_number, write_text};
-use libc::STDOUT_FILENO;
+use std::io;
 use std::num::wrapping_add_u64;
 
 // The most entries of a report that are written one by one.
 const MOST_SHOWN: usize = 64;
 
 // The sum of a list's entries, and the sum of all sums up to an entry: together they tell the order too.
-#[derive(Drop)]
+#[derive(Clone, Copy)]
 struct Sums {
     plain: u64,
     running: u64,
@@ -33,47 +33,51 @@ fn end_run(list: &[u32], from: usize) -> usize
 }
 
 // An entry, and how often it stands there if more than once.
-fn write_run(entry: u32, times: usize) {
-    write_number(widen(entry));
+fn write_run(rt: &impl Print, entry: u32, times: usize) -> io::Result<()> {
+    write_number(rt, widen(entry))?;
     if times > 1 {
-        write_text(b"*");
-        io::print_decimal(STDOUT_FILENO, times as u64);
+        write_text(rt, b"*")?;
+        rt.print(times)?;
     }
+    Ok(())
 }
 
 // A name and the entries of a list.
-pub fn write_list(name: &[u8], list: &[u32]) {
-    write_text(name);
+pub fn write_list(rt: &impl Print, name: &[u8], list: &[u32]) -> io::Result<()> {
+    write_text(rt, name)?;
     let mut i = 0;
     while i < list.len() {
         let from = i;
         i = end_run(list, from);
-        write_run(list[from], i - from);
+        write_run(rt, list[from], i - from)?;
     }
+    Ok(())
 }
 
-fn write_wide(name: &[u8], list: &[u64]) {
-    write_text(name);
+fn write_wide(rt: &impl Print, name: &[u8], list: &[u64]) -> io::Result<()> {
+    write_text(rt, name)?;
     let mut i = 0;
     while i < list.len() {
-        write_number(list[i]);
+        write_number(rt, list[i])?;
         i += 1;
     }
+    Ok(())
 }
 
-fn write_kept(count: usize) {
+fn write_kept(rt: &impl Print, count: usize) -> io::Result<()> {
     if count > 0 {
-        write_text(b" (");
-        io::print_decimal(STDOUT_FILENO, count as u64);
-        write_text(b" kept)");
+        write_text(rt, b" (")?;
+        rt.print(count)?;
+        write_text(rt, b" kept)")?;
     }
+    Ok(())
 }
 
 // A name, what was written to a filled list, and how many entries after it are as they were.
-pub fn write_left(name: &[u8], list: &[u32]) {
+pub fn write_left(rt: &impl Print, name: &[u8], list: &[u32]) -> io::Result<()> {
     let end = written(list);
-    write_list(name, &list[..end]);
-    write_kept(list.len() - end);
+    write_list(rt, name, &list[..end])?;
+    write_kept(rt, list.len() - end)
 }
 
 fn sum_up(list: &[u32]) -> Sums {
@@ -89,69 +93,70 @@ fn sum_up(list: &[u32]) -> Sums {
 }
 
 // A name, how many entries a list has, and their sums.
-fn write_sums(name: &[u8], list: &[u32]) {
+fn write_sums(rt: &impl Print, name: &[u8], list: &[u32]) -> io::Result<()> {
     let sums = sum_up(list);
-    write_text(name);
-    write_number(list.len() as u64);
-    write_text(b" entries, sums");
-    write_number(sums.plain);
-    write_number(sums.running);
+    write_text(rt, name)?;
+    write_number(rt, list.len() as u64)?;
+    write_text(rt, b" entries, sums")?;
+    write_number(rt, sums.plain)?;
+    write_number(rt, sums.running)
 }
 
 // The same as `write_left`, of a list that may be long: then its sums are written.
-pub fn write_left_long(name: &[u8], list: &[u32]) {
+pub fn write_left_long(rt: &impl Print, name: &[u8], list: &[u32]) -> io::Result<()> {
     let end = written(list);
     if end > MOST_SHOWN {
-        write_sums(name, &list[..end]);
+        write_sums(rt, name, &list[..end])?;
     } else {
-        write_list(name, &list[..end]);
+        write_list(rt, name, &list[..end])?;
     }
-    write_kept(list.len() - end);
+    write_kept(rt, list.len() - end)
 }
 
-pub fn write_left_wide(name: &[u8], list: &[u64]) {
+pub fn write_left_wide(rt: &impl Print, name: &[u8], list: &[u64]) -> io::Result<()> {
     let end = written_wide(list);
-    write_wide(name, &list[..end]);
-    write_kept(list.len() - end);
+    write_wide(rt, name, &list[..end])?;
+    write_kept(rt, list.len() - end)
 }
 
 // A byte of a text: itself where it can be printed, else its number between angle brackets, and so the sign `<`.
-fn write_byte(byte: u8) {
+fn write_byte(rt: &impl Print, byte: u8) -> io::Result<()> {
     match byte {
-        b' '..=b';' | b'='..=b'~' => write_text(&[byte]),
+        b' '..=b';' | b'='..=b'~' => write_text(rt, &[byte]),
         _ => {
-            write_text(b"<");
-            io::print_decimal(STDOUT_FILENO, byte as u64);
-            write_text(b">");
+            write_text(rt, b"<")?;
+            rt.print(byte)?;
+            write_text(rt, b">")
         }
     }
 }
 
-fn write_bytes(text: &[u8]) {
+fn write_bytes(rt: &impl Print, text: &[u8]) -> io::Result<()> {
     let mut i = 0;
     while i < text.len() {
-        write_byte(text[i]);
+        write_byte(rt, text[i])?;
         i += 1;
     }
+    Ok(())
 }
 
 // A name and a text in quotes.
-pub fn write_quoted(name: &[u8], text: &[u8]) {
-    write_text(name);
-    write_text(b" \"");
-    write_bytes(text);
-    write_text(b"\"");
+pub fn write_quoted(rt: &impl Print, name: &[u8], text: &[u8]) -> io::Result<()> {
+    write_text(rt, name)?;
+    write_text(rt, b" \"")?;
+    write_bytes(rt, text)?;
+    write_text(rt, b"\"")
 }
 
 // A name, the text that was written to a filled list, and how many bytes after it are as they were.
-pub fn write_left_text(name: &[u8], turn: usize, list: &[u8]) {
+pub fn write_left_text(rt: &impl Print, name: &[u8], turn: usize, list: &[u8]) -> io::Result<()> {
     let end = bytes::written(turn, list);
-    write_quoted(name, &list[..end]);
-    write_kept(list.len() - end);
+    write_quoted(rt, name, &list[..end])?;
+    write_kept(rt, list.len() - end)
 }
 
 // A name, and how many bytes of a filled list are as they were after the last that is not.
-pub fn write_left_bytes(name: &[u8], turn: usize, list: &[u8]) {
-    write_text(name);
-    write_kept(list.len() - bytes::written(turn, list));
+pub fn write_left_bytes(rt: &impl Print, name: &[u8], turn: usize, list: &[u8]) -> io::Result<()> {
+    write_text(rt, name)?;
+    write_kept(rt, list.len() - bytes::written(turn, list))
 }
