@@ -23,11 +23,7 @@ pub fn sp_block_starts(sizes: &[u32], colours: &[u32], starts: &mut [u64]) -> Co
 }
 
 // In how many places the leftmost packing, moved as a whole, lies in the line.
-pub fn sp_positions_number(
-    length: usize,
-    sizes: &[u32],
-    colours: &[u32],
-) -> PositionsReply
+pub fn sp_positions_number(length: usize, sizes: &[u32], colours: &[u32]) -> PositionsReply
     ensures { Told tell_positions_of (PositionsNumber length (coloured sizes.now colours.now)) result }
 {
     tell_positions(positions::multicolor::positions_number(length, sizes, colours))

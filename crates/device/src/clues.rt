@@ -7,12 +7,7 @@ use replies::clues::{CluesReply, tell_clues};
 use replies::count::{CountReply, tell_count};
 
 // The clue of a line of codes: its maximal runs of equal codes that are not blank.
-pub fn sp_clue(
-    codes: &[u32],
-    blank: u32,
-    sizes: &mut [u32],
-    colours: &mut [u32],
-) -> CountReply
+pub fn sp_clue(codes: &[u32], blank: u32, sizes: &mut [u32], colours: &mut [u32]) -> CountReply
     ensures { Told tell_count_of (λ a. ColouredClue blank codes.now sizes.old colours.old a sizes.new colours.new) result }
 {
     tell_count(clue::multicolor::from_line(codes, blank, sizes, colours))

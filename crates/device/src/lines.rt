@@ -16,12 +16,7 @@ pub fn sp_solve_line(
     answer_number(multicolor::solve(cells, sizes, colours, memo, out))
 }
 
-pub fn sp_solve_binary_line(
-    cells: &[u32],
-    sizes: &[u32],
-    memo: &mut [u8],
-    out: &mut [u32],
-) -> u32
+pub fn sp_solve_binary_line(cells: &[u32], sizes: &[u32], memo: &mut [u8], out: &mut [u32]) -> u32
     ensures { SolvesBinaryLine cells.now sizes.now memo.old out.old result memo.new out.new }
 {
     answer_number(binary::solve(cells, sizes, memo, out))

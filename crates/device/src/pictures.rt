@@ -13,12 +13,7 @@ pub fn sp_read_pbm(text: &[u8], codes: &mut [u32]) -> PbmReply
 }
 
 // The text of a picture of width × height codes, each 1 or 2.
-pub fn sp_write_pbm(
-    width: usize,
-    height: usize,
-    codes: &[u32],
-    text: &mut [u8],
-) -> CountReply
+pub fn sp_write_pbm(width: usize, height: usize, codes: &[u32], text: &mut [u8]) -> CountReply
     ensures { Told tell_count_of (λ a. WritesPbm width height codes.now text.old a text.new) result }
 {
     tell_count(pbm::write::write_pbm(width, height, codes, text))

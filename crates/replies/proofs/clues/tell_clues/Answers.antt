@@ -1,7 +1,6 @@
 -- `clues::tell_clues` meets its contract: by the kind of the answer.
 use mathlib.Core.Path.{sym, ap, ◌∙◌}
 use Rattle.replies.specs.Replies.{tell_clues_of}
-use borrow.Author.Rules.{rules}
 use Rattle.replies.proofs.clues.tell_clues.Goals as goal
 
 pub returns-in-Done : goal.returns-in-Done

@@ -1,7 +1,6 @@
 -- `count::tell_count` meets its contract: by the kind of the answer.
 use mathlib.Core.Path.{sym, ap, ◌∙◌}
 use Rattle.replies.specs.Replies.{tell_count_of}
-use borrow.Author.Rules.{rules}
 use Rattle.replies.proofs.count.tell_count.Goals as goal
 
 pub returns-in-Done : goal.returns-in-Done

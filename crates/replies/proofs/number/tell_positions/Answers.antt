@@ -1,7 +1,6 @@
 -- `number::tell_positions` meets its contract: by the kind of the answer.
 use mathlib.Core.Path.{sym, ap, ◌∙◌}
 use Rattle.replies.specs.Replies.{tell_positions_of}
-use borrow.Author.Rules.{rules}
 use Rattle.replies.proofs.number.tell_positions.Goals as goal
 
 pub returns-in-Number : goal.returns-in-Number

@@ -1,7 +1,6 @@
 -- `pictures::tell_pbm` meets its contract: by the kind of the answer.
 use mathlib.Core.Path.{sym, ap, ◌∙◌}
 use Rattle.replies.specs.Replies.{tell_pbm_of}
-use borrow.Author.Rules.{rules}
 use Rattle.replies.proofs.pictures.tell_pbm.Goals as goal
 
 pub returns-in-Done : goal.returns-in-Done

@@ -3,7 +3,6 @@ use mathlib.Core.Path.{sym, ap, ◌∙◌}
 use mathlib.Core.Option.{none}
 use Rattle.run.specs.Ends.{reply_by}
 use Rattle.replies.specs.Replies.{tell_run}
-use borrow.Author.Rules.{rules}
 use Rattle.replies.proofs.runs.reply_of.Goals as goal
 
 pub returns-in-Done : goal.returns-in-Done

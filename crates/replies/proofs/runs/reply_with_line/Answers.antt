@@ -2,7 +2,6 @@
 use mathlib.Core.Path.{sym, ap}
 use mathlib.Core.Option.{some}
 use Rattle.replies.specs.Replies.{tell_run}
-use borrow.Author.Rules.{rules}
 use Rattle.replies.proofs.runs.reply_with_line.Goals as goal
 
 pub returns-in-Row : goal.returns-in-Row
