@@ -6,7 +6,7 @@ pub mod calls;
 pub mod pictures;
 pub mod runs;
 
-ghost use Rattle.std.specs.Prelude.{◌≡◌, length, IfOk};
+ghost use Rattle.std.specs.Prelude.{◌≡◌, length, IfOk, OnErr};
 ghost use Rattle.vectors.specs.Counts.{IsPrefixLen};
 
 use std::io;
@@ -154,7 +154,8 @@ pub fn read_board<R: Read>(
     reader: Reader,
     grid: &mut [u32],
 ) -> io::Result<Board>
-    ensures { IfOk result (λ r. IsPrefixLen r.cells grid.new) }
+    ensures ok { IfOk result (λ r. IsPrefixLen r.cells grid.new) }
+    ensures err { OnErr result (length grid.new ≡ length grid.old) }
 {
     let start = read_start(input, buffer, reader)?;
     let head = start.head;

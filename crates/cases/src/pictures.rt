@@ -1,6 +1,6 @@
 // Pictures as plain PBM: what a case of call 20, which reads one, and of call 21, which writes one, is given, and both calls with as much room
 // as the case says.
-ghost use Rattle.std.specs.Prelude.{IfOk};
+ghost use Rattle.std.specs.Prelude.{◌≡◌, length, IfOk, OnErr};
 ghost use Rattle.vectors.specs.Counts.{IsPrefixLen};
 
 use crate::read_sides;
@@ -37,7 +37,8 @@ pub fn read_text<R: Read>(
     reader: Reader,
     text: &mut [u8],
 ) -> io::Result<Text>
-    ensures { IfOk result (λ r. IsPrefixLen r.bytes text.new) }
+    ensures ok { IfOk result (λ r. IsPrefixLen r.bytes text.new) }
+    ensures err { OnErr result (length text.new ≡ length text.old) }
 {
     let room = demand(input, buffer, reader, u64::MAX)?;
     let listed = bytes::read(input, buffer, room.reader, text)?;
@@ -56,7 +57,8 @@ pub fn read_drawing<R: Read>(
     reader: Reader,
     codes: &mut [u32],
 ) -> io::Result<Drawing>
-    ensures { IfOk result (λ r. IsPrefixLen r.codes codes.new) }
+    ensures ok { IfOk result (λ r. IsPrefixLen r.codes codes.new) }
+    ensures err { OnErr result (length codes.new ≡ length codes.old) }
 {
     let sides = read_sides(input, buffer, reader)?;
     let room = demand(input, buffer, sides.reader, u64::MAX)?;

@@ -1,6 +1,6 @@
 // Lists of bytes that a replayed call works in, reads or writes: made, filled with what the call could take for its own, read from a file of
 // numbers, and looked at again.
-ghost use Rattle.std.specs.Prelude.{◌≡◌, length, IfOk};
+ghost use Rattle.std.specs.Prelude.{◌≡◌, length, IfOk, OnErr};
 ghost use Rattle.vectors.specs.Counts.{IsPrefixLen};
 ghost use Rattle.vectors.specs.Fillers.{byte_at, Filled};
 
@@ -77,7 +77,8 @@ pub fn read<R: Read>(
     reader: Reader,
     list: &mut [u8],
 ) -> io::Result<Listed>
-    ensures { IfOk result (λ r. IsPrefixLen r.count list.new) }
+    ensures ok { IfOk result (λ r. IsPrefixLen r.count list.new) }
+    ensures err { OnErr result (length list.new ≡ length list.old) }
 {
     let counted = demand(input, buffer, reader, list.len() as u64)?;
     let count = counted.value as usize;

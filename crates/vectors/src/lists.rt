@@ -1,5 +1,5 @@
 // Lists that a replayed call reads and writes: made, filled, read from a file of numbers, and compared with one.
-ghost use Rattle.std.specs.Prelude.{◌≡◌, length, IfOk};
+ghost use Rattle.std.specs.Prelude.{◌≡◌, length, IfOk, OnErr};
 ghost use Rattle.vectors.specs.Counts.{IsPrefixLen};
 ghost use Rattle.vectors.specs.Fillers.{filler_at, Filled};
 
@@ -211,7 +211,8 @@ pub fn read<R: Read>(
     reader: Reader,
     list: &mut [u32],
 ) -> io::Result<Listed>
-    ensures { IfOk result (λ r. IsPrefixLen r.count list.new) }
+    ensures ok { IfOk result (λ r. IsPrefixLen r.count list.new) }
+    ensures err { OnErr result (length list.new ≡ length list.old) }
 {
     let counted = demand(input, buffer, reader, list.len() as u64)?;
     let count = counted.value as usize;
@@ -236,6 +237,7 @@ pub fn read_pair<R: Read>(
 ) -> io::Result<Pair>
     ensures first { IfOk result (λ r. IsPrefixLen r.first first.new) }
     ensures second { IfOk result (λ r. IsPrefixLen r.second second.new) }
+    ensures err { OnErr result ((length first.new ≡ length first.old) × (length second.new ≡ length second.old)) }
 {
     let one = read(input, buffer, reader, first)?;
     let reader = one.reader;
@@ -260,6 +262,7 @@ pub fn read_line<R: Read>(
     ensures cells { IfOk result (λ r. IsPrefixLen r.cells cells.new) }
     ensures sizes { IfOk result (λ r. IsPrefixLen r.sizes sizes.new) }
     ensures colours { IfOk result (λ r. IsPrefixLen r.colours colours.new) }
+    ensures err { OnErr result ((length cells.new ≡ length cells.old) × (length sizes.new ≡ length sizes.old) × (length colours.new ≡ length colours.old)) }
 {
     let listed = read(input, buffer, reader, cells)?;
     let reader = listed.reader;
@@ -280,7 +283,8 @@ pub fn read_picture<R: Read>(
     reader: Reader,
     codes: &mut [u32],
 ) -> io::Result<Picture>
-    ensures { IfOk result (λ r. IsPrefixLen r.codes codes.new) }
+    ensures ok { IfOk result (λ r. IsPrefixLen r.codes codes.new) }
+    ensures err { OnErr result (length codes.new ≡ length codes.old) }
 {
     let width = demand(input, buffer, reader, u64::MAX)?;
     let reader = width.reader;

@@ -1,7 +1,7 @@
 // Reads a file of numbers from a reader, as standard input, in pieces as large as the buffer that the caller lends.
 //
 // Such a file is decimal numbers below 2^64, separated by blanks, tabs and line ends; `#` starts a comment to the end of its line.
-ghost use Rattle.std.specs.Prelude.{◌≡◌, ◌≤◌, true, IfOk};
+ghost use Rattle.std.specs.Prelude.{◌≡◌, ◌≤◌, true, length, IfOk, OnErr};
 
 use std::io;
 use std::io::Read;
@@ -251,7 +251,8 @@ pub fn demand<R: Read>(
     reader: Reader,
     most: u64,
 ) -> io::Result<Demanded>
-    ensures { IfOk result (λ r. r.value ≤ most) }
+    ensures ok { IfOk result (λ r. r.value ≤ most) }
+    ensures err { OnErr result (length buffer.new ≡ length buffer.old) }
 {
     let next = read_word(input, buffer, reader)?;
     let word = next.word;
