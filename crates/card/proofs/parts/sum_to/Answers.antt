@@ -17,10 +17,10 @@ bounds-counts-j c =
     omega (arith, c.loop-j-test.true, c.requires.0)
 
 pub overflow_cast-total : goal.overflow_cast-total
-overflow_cast-total c = omega (arith, c.shared_slice_known-1.given c.loop-j.j)
+overflow_cast-total c = omega (arith, c.type_inv.counts c.loop-j.j)
 
 pub overflow_add-total : goal.overflow_add-total
-overflow_add-total c = omega (arith, c.shared_slice_known-1.given c.loop-j.j)
+overflow_add-total c = omega (arith, c.type_inv.counts c.loop-j.j)
 
 pub overflow_add-j : goal.overflow_add-j
 overflow_add-j c = omega arith
@@ -30,7 +30,7 @@ loop-j-smaller c = omega arith
 
 pub loop-j-preserved : goal.loop-j-preserved
 loop-j-preserved c =
-    omega (arith, sum_more c.args.counts.now c.loop-j.j (omega arith), c.shared_slice_known-1.given c.loop-j.j)
+    omega (arith, sum_more c.args.counts.now c.loop-j.j (omega arith), c.type_inv.counts c.loop-j.j)
 
 pub returns : goal.returns
 returns c =
