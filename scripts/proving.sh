@@ -14,11 +14,18 @@ need() { # COMMAND ...
   done
 }
 
-# The crates that a crate is made of, itself among them: crates.txt lists a crate after those that it depends on.
+# The crates that a crate is made of, itself last, each after those that it depends on: the order in which rt builds them.
 parts_of() { # CRATE
-  tac "$root/crates.txt" | awk -F: -v top="$1" '
-    BEGIN { needed[top] = 1 }
-    $1 in needed { print $1; n = split($2, parts, " "); for (i = 1; i <= n; i++) needed[parts[i]] = 1 }'
+  awk -F: -v top="$1" '
+    function list(name,    parts, n, i) {
+      n = split(uses[name], parts, /[ \t,]+/)
+      for (i = 1; i <= n; i++) if (parts[i] in uses && !(parts[i] in listed)) list(parts[i])
+      listed[name]
+      print name
+    }
+    { sub(/#.*/, "") }
+    split($1, head, " ") { uses[head[1]] = $2 }
+    END { list(top) }' "$root/crates.txt"
 }
 
 # One line for all that decides how a crate comes out, and for the file that was made of it.
@@ -26,8 +33,8 @@ sum_of() { # CRATE FILE
   {
     rt version
     cd "$root" && for part in $(parts_of "$1"); do
-      grep "^$part:" crates.txt
-      find "crates/$part" -type f -exec sha256sum {} + | sort
+      grep -E "^$part([ :]|$)" crates.txt
+      find "crates/$part" -path "crates/$part/out" -prune -o -type f -exec sha256sum {} + | sort
     done
     sha256sum < "$2"
   } | sha256sum
@@ -41,26 +48,36 @@ is_built() { # CRATE FILE
   [ -f "$2" ] && [ -f "$2.sum" ] && [ "$(cat "$2.sum")" = "$(sum_of "$1" "$2")" ]
 }
 
-# Runs rt on a crate, and tells each crate that it is made of once that is proved. All that rt says is in target/proving.log, whose end is
-# shown where rt fails.
-run_rt() { # CRATE WORDS ...
-  local log=$root/target/proving.log line count=0 total
-  total=$(parts_of "$1" | wc -l)
-  shift
+# Runs rt in a crate's folder, and tells each crate that it is made of once that is proved; those that need no proof again are passed over. All
+# that rt says is in target/proving.log, whose end is shown where rt fails.
+run_rt() { # CRATE VERB
+  local log=$root/target/proving.log line name='' parts status
+  parts=$(parts_of "$1")
   mkdir -p "$root/target"
-  (cd "$root" && rt "$@" < /dev/null 2>&1) | tee "$log" | while IFS= read -r line; do
+  (cd "$root/crates/$1" && rt "$2" < /dev/null 2>&1) | tee "$log" | while IFS= read -r line; do
     case $line in
-    'rt: '*' proved (unchanged'*) count=$((count + 1)) ;;
-    'rt: '*' proved ('*)
-      count=$((count + 1))
-      printf '  %s: %d of %d\n' "${line#rt: }" "$count" "$total" >&2
+    'rt: chose --jobs '*' for '*) name=${line##* } ;;
+    'logic=proved functions='*)
+      line=${line#logic=proved functions=}
+      printf '  %s proved, %s functions: %s\n' "$name" "${line%% *}" \
+        "$(awk -v name="$name" '$1 == name { at = NR } END { print at " of " NR }' <<< "$parts")" >&2
       ;;
     esac
   done
-  if [ "${PIPESTATUS[0]}" -ne 0 ]; then
+  status=${PIPESTATUS[0]}
+  # Once a program is proved and linked, rt run runs it and ends with its status.
+  if [ "$2" = run ] && grep -q "^rt: running out/$1;" "$log"; then status=0; fi
+  if [ "$status" -ne 0 ]; then
     tail -n 20 "$log" >&2
     return 1
   fi
+}
+
+# Has rt make out/MADE in a crate's folder, and leaves FILE as a copy of it.
+make_copy() { # CRATE VERB MADE FILE
+  run_rt "$1" "$2" || return
+  mkdir -p "$(dirname "$4")"
+  cp "$root/crates/$1/out/$3" "$4.new" && mv "$4.new" "$4"
 }
 
 # Makes FILE of CRATE by a command, unless it is there and all that it was made of is as it was. Two that do so at once, as the commands of a
@@ -81,7 +98,8 @@ build_once() { # CRATE FILE COMMAND ...
 
 # The device library for this machine.
 build_device() {
-  build_once device "$root/target/staticlib/libdevice.a" run_rt device staticlib device
+  local library=$root/target/staticlib/libdevice.a
+  build_once device_c "$library" make_copy device_c lib libdevice_c.a "$library"
 }
 
 # ---- what the commands for a person share; each has a function `usage`, and status 4 where it cannot do its work
@@ -122,5 +140,5 @@ take_files() { # OURS WORD ...
 # A command's program, proved and built, as `program`.
 take_program() { # CRATE
   program=$root/target/bin/$1
-  need rt && build_once "$1" "$program" run_rt "$1" check "$1" || exit 4
+  need rt && build_once "$1" "$program" make_copy "$1" run "$1" "$program" || exit 4
 }
