@@ -16,37 +16,47 @@ kit=$(cd "$(dirname "$(readlink -f "$(command -v rt)")")/.." && pwd)
 mkdir -p "$1"
 out=$(cd "$1" && pwd)
 shift
-tools=$out/kit/on/x86_64/toolchain
+tools=$out/kit/toolchain
 
 # What was made by another compiler than the one to come is made anew.
 sed -e "s,@KIT@,$kit,g" -e "s,@OUT@,$out,g" "$here/compiler.sh" > "$out/compiler"
 if ! cmp -s "$out/compiler" "$tools/bin/clang"; then rm -f "$out"/*.sum; fi
 
-# A second home for rt: links into the kit, but for the compiler.
+# Links all of a folder but what is named.
+link_all() { # FOLDER TO NAME ...
+  local from=$1 to=$2 file
+  shift 2
+  mkdir -p "$to"
+  for file in "$from"/*; do
+    case " $* " in
+    *" ${file##*/} "*) ;;
+    *) ln -s "$file" "$to/" ;;
+    esac
+  done
+}
+
+# A second home for rt: links into the kit, but for the compiler. rt takes for its kit what its own two files lie in, so these are copies.
 rm -rf "$out/kit"
-mkdir -p "$tools/bin"
-for f in "$kit"/*; do if [ "$(basename "$f")" != on ]; then ln -s "$f" "$out/kit/"; fi; done
-for f in "$kit"/on/x86_64/*; do if [ "$(basename "$f")" != toolchain ]; then ln -s "$f" "$out/kit/on/x86_64/"; fi; done
-ln -s "$kit/toolchain/lib" "$tools/lib"
-for t in ld.lld llvm-ar; do ln -s "$kit/on/x86_64/toolchain/bin/$t" "$tools/bin/$t"; done
+link_all "$kit" "$out/kit" bin toolchain
+link_all "$kit/bin" "$out/kit/bin" rt rtlib.py
+link_all "$kit/toolchain" "$tools" bin
+link_all "$kit/toolchain/bin" "$tools/bin" clang
+cp "$kit/bin/rt" "$kit/bin/rtlib.py" "$out/kit/bin/"
 mv "$out/compiler" "$tools/bin/clang"
 chmod +x "$tools/bin/clang"
 
-# Runs rt on a crate, and keeps under the crate's name what the compiler made: the module for both machines, the object and the frames.
-build() { # CRATE VERB
+# Runs rt on a crate, and keeps under a name what the compiler made: the module for both machines, the object and the frames.
+build() { # CRATE VERB NAME
   local part
-  rm -f "$out"/module.* "$out/$1".*
+  rm -f "$out"/module.* "$out/$3".*
   # A program that rt has proved already is not compiled again: it is told to forget that.
-  rm -f "$root/target/stamp/$1"
-  RATTLE_HOME=$out/kit run_rt "$1" "$2" "$1" || return
-  for part in x86_64.ll riscv64.ll o su; do mv "$out/module.$part" "$out/$1.$part"; done
+  rm -f "$root/crates/$1/out/$1.stamp"
+  PATH=$out/kit/bin:$PATH run_rt "$1" "$2" || return
+  for part in x86_64.ll riscv64.ll o su; do mv "$out/module.$part" "$out/$3.$part" || return; done
 }
 
-# The library of x86-64 comes with it.
-build_devices() { build device staticlib && note_built device "$root/target/staticlib/libdevice.a"; }
-
-build_once device "$out/device.o" build_devices
 build_device
+build_once device_c "$out/device.o" build device_c lib device
 rm -f "$out/libdevice.a"
 "$tools/bin/llvm-ar" rcs "$out/libdevice.a" "$out/device.o"
-for program in "$@"; do build_once "$program" "$out/$program.o" build "$program" check; done
+for program in "$@"; do build_once "$program" "$out/$program.o" build "$program" run "$program"; done
