@@ -1,6 +1,6 @@
 /* Scorepuddle for C and C++: the calls of the device library.
  *
- * Build it with `scripts/device.sh` and link target/staticlib/libdevice.a. What each call promises is proved of it, for every input;
+ * Build it with `scripts/build.sh device` and link target/staticlib/libdevice.a. What each call promises is proved of it, for every input;
  * docs/STATEMENTS.md says where. Nothing checks this header itself but the programs under examples/ and tests/.
  *
  * LISTS. A list is a pointer and a count of entries, in this order. With a count of 0 the pointer must still not be null. Lists that a

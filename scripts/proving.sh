@@ -57,6 +57,7 @@ run_rt() { # CRATE VERB
   (cd "$root/crates/$1" && rt "$2" < /dev/null 2>&1) | tee "$log" | while IFS= read -r line; do
     case $line in
     'rt: chose --jobs '*' for '*) name=${line##* } ;;
+    'rt: waiting for '* | 'rt: '*': another copy '*) printf '  %s\n' "${line#rt: }" >&2 ;;
     'logic=proved functions='*)
       line=${line#logic=proved functions=}
       printf '  %s proved, %s functions: %s\n' "$name" "${line%% *}" \
@@ -102,6 +103,12 @@ build_device() {
   build_once device_c "$library" make_copy device_c lib libdevice_c.a "$library"
 }
 
+# A program for this machine.
+build_program() { # CRATE
+  local program=$root/target/bin/$1
+  build_once "$1" "$program" make_copy "$1" run "$1" "$program"
+}
+
 # ---- what the commands for a person share; each has a function `usage`, and status 4 where it cannot do its work
 
 end() { # STATUS MESSAGE
@@ -140,5 +147,5 @@ take_files() { # OURS WORD ...
 # A command's program, proved and built, as `program`.
 take_program() { # CRATE
   program=$root/target/bin/$1
-  need rt && build_once "$1" "$program" make_copy "$1" run "$1" "$program" || exit 4
+  need rt && build_program "$1" || exit 4
 }

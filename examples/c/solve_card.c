@@ -1,7 +1,7 @@
 /* A black card, as a device would play it: a picture read from a text, its clues, a row in two inks, a full run, a right mark, a wrong
  * mark, a refusal, and the solved board written as a text.
  *
- * Build: scripts/device.sh, then cc -I include examples/c/solve_card.c target/staticlib/libdevice.a */
+ * Build: scripts/build.sh device, then cc -I include examples/c/solve_card.c target/staticlib/libdevice.a */
 #include <stdio.h>
 #include <string.h>
 

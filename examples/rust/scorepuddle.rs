@@ -1,7 +1,7 @@
 //! Scorepuddle for Rust: the calls of the device library, one safe function each. include/scorepuddle.h says what each one does.
 //!
 //! A list is lent as a slice. That the lists which a call writes overlap no other is what Rust's borrows say already, so nothing here
-//! is unsafe to call. Build the library with `scripts/device.sh` and a program with `rustc -L native=target/staticlib`.
+//! is unsafe to call. Build the library with `scripts/build.sh device` and a program with `rustc -L native=target/staticlib`.
 #![allow(dead_code)]
 #![allow(clippy::too_many_arguments)]
 

@@ -1,7 +1,7 @@
 //! A coloured card, as a device would play it: the clues of a picture, what one line tells, a full run, a mark, and two refusals; and a
 //! scanned picture, its clues, and its text again.
 //!
-//! Build: scripts/device.sh, then rustc --edition 2021 -L native=target/staticlib examples/rust/solve_card.rs
+//! Build: scripts/build.sh device, then rustc --edition 2021 -L native=target/staticlib examples/rust/solve_card.rs
 mod scorepuddle;
 
 use scorepuddle::*;

@@ -59,4 +59,7 @@ build_device
 build_once device_c "$out/device.o" build device_c lib device
 rm -f "$out/libdevice.a"
 "$tools/bin/llvm-ar" rcs "$out/libdevice.a" "$out/device.o"
-for program in "$@"; do build_once "$program" "$out/$program.o" build "$program" run "$program"; done
+for program in "$@"; do
+  build_program "$program"
+  build_once "$program" "$out/$program.o" build "$program" run "$program"
+done

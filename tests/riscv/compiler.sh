@@ -14,7 +14,7 @@ if [ -n "$module" ]; then
     -e 's/^target triple = .*/target triple = "riscv64-unknown-linux-gnu"/' \
     -e 's/"target-cpu"="x86-64-v2"/"target-cpu"="generic-rv64"/' \
     -e '/^define internal/!s/^define (noundef )?i32 @/define signext \1i32 @/' \
-    -e 's/@(read|write)\(i32 /@\1(i32 signext /' \
+    -e '/@(read|write|__write|lseek|__sysv_signal|__xpg_strerror_r)\(/s/([(,] ?)i32 /\1i32 signext /g' \
     "@OUT@/module.x86_64.ll" > "@OUT@/module.riscv64.ll" || exit 1
   "$real" --target=riscv64-unknown-linux-gnu -march=rv64gc -mabi=lp64d -ffunction-sections -fdata-sections \
     -mllvm -trap-unreachable -mllvm -no-trap-after-noreturn -mllvm -disable-machine-licm -mllvm -disable-postra-machine-licm \

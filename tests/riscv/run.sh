@@ -16,11 +16,12 @@ mkdir -p "$1"
 out=$(cd "$1" && pwd)
 seed=${2:-7303}
 count=${3:-20000}
+flags=(-std=c11 -Wall -Wextra -Werror -O2 -I "$root/include")
 
 # Runs a program on its own stdin, args and data/, and holds what it prints to its stdout.
 run_program() { # NAME
   local dir=$root/crates/$1 room=$out/data input=/dev/null words=()
-  riscv64-linux-gnu-gcc -static "$out/$1.o" -o "$out/$1"
+  riscv64-linux-gnu-gcc "${flags[@]}" -static "$here/host.c" "$out/$1.o" -o "$out/$1"
   rm -rf "$room"
   mkdir "$room"
   if [ -d "$dir/data" ]; then cp -R "$dir/data/." "$room/"; fi
@@ -50,7 +51,6 @@ check_names() {
 }
 
 compare_calls() {
-  local flags=(-std=c11 -Wall -Wextra -Werror -O2 -I "$root/include")
   gcc "${flags[@]}" "$here/compare.c" "$root/target/staticlib/libdevice.a" -o "$out/compare-x86_64"
   riscv64-linux-gnu-gcc "${flags[@]}" -static "$here/compare.c" "$out/libdevice.a" -o "$out/compare-riscv64"
   told x86_64 "$out/compare-x86_64"
