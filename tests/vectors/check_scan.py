@@ -18,7 +18,7 @@ from collections import Counter, namedtuple
 import drawing_runs
 from check_cards import run_program, write_counts
 from drawing_pbm import draw_damaged, draw_sides, draw_text, rng
-from expect_scan import LONG, MEANINGS, MOST_BYTES, MOST_CODES, ODD, RAW, read_text, tell
+from expect_scan import LONG, MEANINGS, MOST_BYTES, MOST_CODES, ODD, RAW, UNOPENED, is_opened, read_text, tell, tell_file
 from reading import BLACK, BLANK
 from reading_pbm import read_pbm
 from usage import need_arguments
@@ -49,7 +49,7 @@ LONG_PARTS = [
     (b"P1 1 1 x", b" ", b"1"),
     (b"P1 1 1 1", b" ", b"x"),
 ]
-# A text, where it stands, its reading, and what must be printed of it.
+# A text, where it stands, its reading, and what must be printed of the file.
 Text = namedtuple("Text", "path content reading told")
 
 
@@ -87,7 +87,7 @@ def draw_path(number):
 def draw_one(number):
     path, content = draw_path(number), draw_content()
     reading = read_text(content)
-    return Text(path, content, reading, tell(path, content, reading))
+    return Text(path, content, reading, tell_file(path, content, reading))
 
 
 def write_file(folder, path, content):
@@ -122,7 +122,7 @@ def solve_cards(solve, folder, texts):
     """What solve prints of the cards of pictures, which are files of the folder then."""
     names = [b"card%d.non" % at for at in range(len(texts))]
     for name, text in zip(names, texts):
-        write_file(folder, name, text.told)
+        write_file(folder, name, tell(text.path, text.content, text.reading))
     printed = run_program(solve, folder, names)
     return re.split(rb"(?m)^== card[0-9]+\.non ==\n", printed)[1:] if len(names) > 1 else [printed]
 
@@ -151,6 +151,8 @@ def unsolved(solve, folder, texts, solutions):
 def end_of(text):
     """What a text comes to."""
     number = text.reading[0]
+    if not is_opened(text.path):
+        return UNOPENED.decode()
     return "card" if number == 0 else (RAW if RAW in text.told else MEANINGS[number]).decode()
 
 

@@ -14,6 +14,7 @@ from usage import need_arguments
 MOST_BYTES, MOST_CODES = 65535, 64 * 64
 ODD = bytes([*range(32), *b'"#\\', 127])
 LONG = "long"
+UNOPENED = b"the file cannot be opened"
 RAW = b"this is raw PBM, which pnmtoplainpnm makes plain (11)"
 MEANINGS = {
     1: b"a side is 0 or above 64 (1)",
@@ -63,12 +64,25 @@ def tell(path, text, reading):
     return b"no picture, %s: %s\n" % (path, RAW if raw else MEANINGS[number])
 
 
+def is_opened(path):
+    """Whether a file's name is UTF-8: no other can be opened (cards/README.md)."""
+    try:
+        return path.decode() is not None
+    except UnicodeDecodeError:
+        return False
+
+
+def tell_file(path, text, reading):
+    """What is printed of a file with a text, by the text's reading."""
+    return tell(path, text, reading) if is_opened(path) else b"no picture, %s: %s\n" % (path, UNOPENED)
+
+
 def answer(folder, path):
     """What is printed of a file in a folder."""
     try:
         with open(os.path.join(os.fsencode(folder), path), "rb") as file:
             text = file.read()
-        return tell(path, text, read_text(text))
+        return tell_file(path, text, read_text(text))
     except FileNotFoundError:
         return b"no picture, %s: there is no such file\n" % path
     except IsADirectoryError:
