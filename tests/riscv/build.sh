@@ -19,8 +19,9 @@ shift
 tools=$out/kit/toolchain
 
 # What was made by another compiler than the one to come is made anew.
-sed -e "s,@KIT@,$kit,g" -e "s,@OUT@,$out,g" "$here/compiler.sh" > "$out/compiler"
-if ! cmp -s "$out/compiler" "$tools/bin/clang"; then rm -f "$out"/*.sum; fi
+sed -e "s,@KIT@,$kit,g" -e "s,@OUT@,$out,g" "$here/compiler.sh" > "$out/compiler.new"
+if ! cmp -s "$out/compiler.new" "$out/compiler"; then rm -f "$out"/*.sum; fi
+mv "$out/compiler.new" "$out/compiler"
 
 # Links all of a folder but what is named.
 link_all() { # FOLDER TO NAME ...
@@ -35,14 +36,17 @@ link_all() { # FOLDER TO NAME ...
   done
 }
 
-# A second home for rt: links into the kit, but for the compiler. rt takes for its kit what its own two files lie in, so these are copies.
-rm -rf "$out/kit"
+# A second home for rt: links into the kit, but for the compiler. rt takes for its kit what its own two files lie in, so these are copies. It
+# goes again at the end, since rt ci refuses a checkout with links in it, and so does what rt notes beside its kit.
+leave_home() { rm -rf "$out/kit" "$out/rattle-kept"; }
+trap leave_home EXIT
+leave_home
 link_all "$kit" "$out/kit" bin toolchain
 link_all "$kit/bin" "$out/kit/bin" rt rtlib.py
 link_all "$kit/toolchain" "$tools" bin
 link_all "$kit/toolchain/bin" "$tools/bin" clang
 cp "$kit/bin/rt" "$kit/bin/rtlib.py" "$out/kit/bin/"
-mv "$out/compiler" "$tools/bin/clang"
+cp "$out/compiler" "$tools/bin/clang"
 chmod +x "$tools/bin/clang"
 
 # Runs rt on a crate, and keeps under a name what the compiler made: the module for both machines, the object and the frames.
