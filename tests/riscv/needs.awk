@@ -5,7 +5,7 @@
 # calls is known, and one that appears is an error.
 read == "frames" { sub(/.*\.ll:/, ""); frame[$1] = $2 }
 read == "sizes" && tolower($3) == "t" { size[$4] = $2 + 0 }
-read == "code" && /^[0-9a-f]+ <[^.].*>:$/ { from = $2; gsub(/[<>:]+$|^</, "", from) }
+read == "code" && /^[0-9a-f]+ <[^.].*>:$/ { from = $2; gsub(/>:$|^</, "", from) }
 read == "code" && $2 ~ /^R_RISCV_CALL/ && $3 in size { calls[from, ++count[from]] = $3 }
 read == "riscv64" { order[++n] = $1; measured[$1] = $2 }
 read == "x86_64" { other[$1] = $2 }

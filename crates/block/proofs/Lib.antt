@@ -1,5 +1,5 @@
+pub mod Lists
 pub mod Packed
-pub mod Judged
 pub mod Told
 pub mod Unique
 pub mod Order

@@ -1,35 +1,35 @@
-// Binary blocks: a list of sizes. The coloured code does the work, on black blocks, of colour 2, once these are seen to be at most 64.
+// Binary blocks: a list of sizes.
 ghost use Rattle.rules.specs.Block.{binary};
-ghost use Rattle.block.specs.Calls.{PartialSums, BlockStarts};
 
-use crate::multicolor;
-use rules::judge::judge_count;
-use rules::{ListAnswer, Verdict};
+use crate::Blocks;
+use rules::Refusal;
+use rules::judge::judge_black;
 
-// The partial sums: the ends of the blocks in the leftmost packing.
-pub fn partial_sums(sizes: &[u32], sums: &mut [u64]) -> ListAnswer
-    ensures { PartialSums (binary sizes.now) sums.old result sums.new }
-{
-    let v = judge_count(true, sizes.len(), sizes.len() <= sums.len());
-    match v {
-        Verdict::Bad(w) => ListAnswer::Refused(w),
-        Verdict::Fine => {
-            let black = [2u32; 64];
-            multicolor::partial_sums(sizes, &black[..sizes.len()], sums)
-        }
-    }
+// The colour of a binary block.
+pub const BLACK: u32 = 2;
+
+// Block i has size i, and is black.
+#[derive(Clone, Copy)]
+pub struct Binary<'a> {
+    pub sizes: &'a [u32],
 }
 
-// The blocks' first cells in the leftmost packing.
-pub fn block_starts(sizes: &[u32], starts: &mut [u64]) -> ListAnswer
-    ensures { BlockStarts (binary sizes.now) starts.old result starts.new }
-{
-    let v = judge_count(true, sizes.len(), sizes.len() <= starts.len());
-    match v {
-        Verdict::Bad(w) => ListAnswer::Refused(w),
-        Verdict::Fine => {
-            let black = [2u32; 64];
-            multicolor::block_starts(sizes, &black[..sizes.len()], starts)
-        }
+impl<'a> Blocks for Binary<'a> {
+    ghost lent = { λ blocks. binary blocks.sizes.now };
+
+    fn count(&self) -> usize {
+        self.sizes.len()
+    }
+
+    fn size(&self, i: usize) -> u32 {
+        self.sizes[i]
+    }
+
+    fn colour(&self, _i: usize) -> u32 {
+        BLACK
+    }
+
+    fn judge(&self, roomy: bool) -> Result<(), Refusal> {
+        judge_black(self.sizes, roomy)
     }
 }

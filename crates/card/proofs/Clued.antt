@@ -9,7 +9,7 @@ use Rattle.rules.specs.Card.{Card, sum, part, clue_of}
 use Rattle.rules.specs.declared.LinePosition.{LinePosition}
 use Rattle.rules.specs.declared.LinePosition.TheVariants.{Row, Column}
 use Rattle.rules.proofs.Blocks.{test_legal}
-use Rattle.card.specs.Steps.{part_of, Direction, RightCard}
+use Rattle.card.specs.Steps.{sizes_at, colours_at, Direction, RightCard}
 
 -- no colours, no blocks
 blocks_none : (ns : List ℕ) → blocks ns [] ≡ []
@@ -41,22 +41,15 @@ module _ {n : ℕ} {counts sizes colours : List ℕ} (d : Direction n counts siz
       (legal_drop (sum (take i counts)) sizes colours (test_legal (blocks sizes colours) d.legal))
 
 module _ {w h : ℕ} {c : Card} (right : RightCard w h c) where
-  -- the sizes and colours of a line
-  abbrev pub sizes_at : LinePosition → List ℕ
-  sizes_at l = part_of l c.row_counts c.row_sizes c.column_counts c.column_sizes
-
-  abbrev pub colours_at : LinePosition → List ℕ
-  colours_at l = part_of l c.row_counts c.row_colours c.column_counts c.column_colours
-
-  pub clue_is : (l : LinePosition) → clue_of c l ≡ blocks (sizes_at l) (colours_at l)
+  pub clue_is : (l : LinePosition) → clue_of c l ≡ blocks (sizes_at l c) (colours_at l c)
   clue_is (Row y) = refl
   clue_is (Column x) = refl
 
-  pub clue_pairs : (l : LinePosition) → length (sizes_at l) ≡ length (colours_at l)
+  pub clue_pairs : (l : LinePosition) → length (sizes_at l c) ≡ length (colours_at l c)
   clue_pairs (Row y) = part_pairs right.rows y.0
   clue_pairs (Column x) = part_pairs right.columns x.0
 
-  pub clue_few : (l : LinePosition) → length (sizes_at l) ≤ 64
+  pub clue_few : (l : LinePosition) → length (sizes_at l c) ≤ 64
   clue_few (Row y) = part_few right.rows y.0
   clue_few (Column x) = part_few right.columns x.0
 

@@ -1,36 +1,33 @@
 -- Counts and parts: what the rules leave of a card's lists, and that a line's part of them is a legal clue.
+use Rattle.std.specs.Prelude.{Ok}
 use mathlib.Core.Path.{◌≡◌, refl, ap, ap₂, ◌∙◌}
 use mathlib.Core.Bool.{Bool, true, false, not, ◌&&◌}
-use mathlib.Core.List.{List, [], ◌∷◌, ◌++◌}
+use mathlib.Core.List.{List, [], ◌∷◌, map}
 use Prim.Native.Nat.{ℕ, zero, suc, ◌+◌, ◌*◌, ◌≤◌, ◌<◌}
-use native.Mathlib.Nat.{not-suc-le-zero, le_of_suc-le-suc, add-zero}
-use native.Mathlib.Numerals.{add-one}
+use native.Mathlib.Nat.{not-suc-le-zero, le_of_suc-le-suc}
 use native.Mathlib.Omega.{arith}
 use borrow.Author.Tests.{eqb-true, leb-true, not-false}
 use lib.Dec.{eqb, leb}
 use lib.ListN.{length, get_or, take, length-map}
-use lib.Seq.{take-suc}
-use Rattle.rules.specs.Block.{blacks, blocks, illegal}
-use Rattle.rules.specs.Card.{Card, sum}
+use Rattle.std.specs.Prelude.{sum_by}
+use Rattle.std.proofs.lemmas.List.Sums.{sum_by-cons}
+use Rattle.rules.specs.Block.{black, blacks, blocks, illegal}
+use Rattle.rules.specs.Card.{Card, black_card, sum}
 use Rattle.rules.specs.CardRules.{counts_fit, room_fits, crowded, card_rules}
 use Rattle.rules.specs.Refusal.{Rule, ◌when◌, verdict, side_rules, memo_size, stack_size}
 use Rattle.rules.specs.declared.Refusal.TheVariants.{BadRoom, TooManyBlocks, BadBlock}
-use Rattle.rules.specs.declared.Refusal.{Refusal}
-use Rattle.rules.specs.declared.Verdict.TheVariants.{Fine, Bad}
+use Rattle.rules.proofs.Blocks.{blacks_blocks}
 use Rattle.rules.proofs.Tests.{both_true}
 use Rattle.rules.proofs.Searching.{not_above}
-use Rattle.rules.proofs.Verdicts.{append_bad, append_fine, append_parts, fine_cons, sides_fine}
+use Rattle.rules.proofs.Verdicts.{append_fine, append_parts, fine_cons, sides_fine}
 use Rattle.card.specs.Steps.{RightCard, list_rules, legal_rules, test_rules}
 
 -- ---- sums
 
-sum-append : (a b : List ℕ) → sum (a ++ b) ≡ sum a + sum b
-sum-append [] b = omega arith
-sum-append (x ∷ a) b = omega (arith, sum-append a b)
-
-pub sum_more : (c : List ℕ) (j : ℕ) → j < length c → sum (take (j + 1) c) ≡ sum (take j c) + get_or c j 0
-sum_more c j h =
-    rw (add-one, take-suc c j 0) (sum-append (take j c) (get_or c j 0 ∷ []) ∙ ap (λ (n : ℕ). sum (take j c) + n) (add-zero (get_or c j 0)))
+-- the library's sum of a list is the card's
+pub sum_is : (c : List ℕ) → sum_by (λ x. x) c ≡ sum c
+sum_is [] = refl
+sum_is (n ∷ c) = sum_by-cons (λ x. x) n c ∙ ap (λ k. n + k) (sum_is c)
 
 -- a line's part ends within the list
 pub sum_part : (c : List ℕ) (i : ℕ) → i < length c → sum (take i c) + get_or c i 0 ≤ sum c
@@ -79,7 +76,7 @@ record Tested (roomy rowsFit columnsFit rowsCrowded columnsCrowded : Bool) : Typ
   row_few : rowsCrowded ≡ false
   column_few : columnsCrowded ≡ false
 
-tested : (a b d e f : Bool) → verdict (test_rules a b d e f) ≡ Fine → Tested a b d e f
+tested : (a b d e f : Bool) → verdict (test_rules a b d e f) ≡ Ok tt → Tested a b d e f
 tested a b d e f q =
     let r1 = BadRoom when not a in
     let r2 = BadRoom when not b in
@@ -102,7 +99,7 @@ module _ (w h cells : ℕ) (rc : List ℕ) (rows row_colours : ℕ) (cc : List �
   abbrev pub counting : List Rule
   counting = list_rules w h cells rc rows row_colours cc columns column_colours memo stack
 
-  pub counts_known : verdict counting ≡ Fine → Known w h cells rc rows row_colours cc columns column_colours memo stack
+  pub counts_known : verdict counting ≡ Ok tt → Known w h cells rc rows row_colours cc columns column_colours memo stack
   counts_known e =
       let a = room_fits w h cells memo stack in
       let b = counts_fit h rc rows row_colours in
@@ -137,14 +134,11 @@ module _ (w h cells : ℕ) (c : Card) (memo stack : ℕ) where
   abbrev lasts : List Rule
   lasts = legal_rules (illegal (blocks c.row_sizes c.row_colours)) (illegal (blocks c.column_sizes c.column_colours))
 
-  pub card_bad : {r : Refusal} → verdict firsts ≡ Bad r → verdict (card_rules w h cells c memo stack) ≡ Bad r
-  card_bad e = append_bad firsts lasts e
-
-  pub card_fine : verdict firsts ≡ Fine → verdict (card_rules w h cells c memo stack) ≡ verdict lasts
+  card_fine : verdict firsts ≡ Ok tt → verdict (card_rules w h cells c memo stack) ≡ verdict lasts
   card_fine e = append_fine firsts lasts e
 
-  module _ (e : verdict (card_rules w h cells c memo stack) ≡ Fine) where
-    parts : (verdict firsts ≡ Fine) × (verdict lasts ≡ Fine)
+  module _ (e : verdict (card_rules w h cells c memo stack) ≡ Ok tt) where
+    parts : (verdict firsts ≡ Ok tt) × (verdict lasts ≡ Ok tt)
     parts = append_parts firsts lasts e
 
     pub card_known : Known w h cells c.row_counts (length c.row_sizes) (length c.row_colours) c.column_counts (length c.column_sizes)
@@ -179,8 +173,16 @@ module _ (w h cells : ℕ) (c : Card) (memo stack : ℕ) where
         }
 
 -- there are as many black colours as sizes
-pub black_counts : (w h cells : ℕ) (rc rs cc cs : List ℕ) (memo stack : ℕ)
+black_counts : (w h cells : ℕ) (rc rs cc cs : List ℕ) (memo stack : ℕ)
     → verdict (counting w h cells rc (length rs) (length (blacks rs)) cc (length cs) (length (blacks cs)) memo stack)
     ≡ verdict (counting w h cells rc (length rs) (length rs) cc (length cs) (length cs) memo stack)
 black_counts w h cells rc rs cc cs memo stack =
     ap₂ (λ a b. verdict (counting w h cells rc (length rs) a cc (length cs) b memo stack)) (length-map rs (λ n. 2)) (length-map cs (λ n. 2))
+
+-- where the counts are right, sizes alone are legal or not by their black blocks
+pub black_fine : (w h cells : ℕ) (rc rs cc cs : List ℕ) (memo stack : ℕ)
+    → verdict (counting w h cells rc (length rs) (length rs) cc (length cs) (length cs) memo stack) ≡ Ok tt
+    → verdict (card_rules w h cells (black_card rc rs cc cs) memo stack) ≡ verdict (legal_rules (illegal (map black rs)) (illegal (map black cs)))
+black_fine w h cells rc rs cc cs memo stack e =
+    card_fine w h cells (black_card rc rs cc cs) memo stack (black_counts w h cells rc rs cc cs memo stack ∙ e)
+    ∙ ap₂ (λ a b. verdict (legal_rules a b)) (ap illegal (blacks_blocks rs)) (ap illegal (blacks_blocks cs))

@@ -1,12 +1,26 @@
 -- What the functions of this crate say of the lists of a card.
 use Rattle.std.specs.Prelude.{◌≡◌, Bool, false, not, List, [], ◌∷◌, ◌++◌, ℕ, ◌≤◌, length, get_or}
 use Rattle.rules.specs.Block.{blocks, illegal}
-use Rattle.rules.specs.Card.{Card, sum, part}
+use Rattle.rules.specs.Board.{On}
+use Rattle.rules.specs.Card.{Card, card_of, black_card, sum, part}
 use Rattle.rules.specs.CardRules.{counts_fit, room_fits, crowded}
 use Rattle.rules.specs.Refusal.{Rule, ◌when◌, side_rules}
 use Rattle.rules.specs.declared.LinePosition.{LinePosition}
 use Rattle.rules.specs.declared.LinePosition.TheVariants.{Row, Column}
 use Rattle.rules.specs.declared.Refusal.TheVariants.{BadRoom, TooManyBlocks, BadBlock}
+use Rattle.card.specs.declared.parts.BlackCard.{BlackCard}
+use Rattle.card.specs.declared.parts.Card.{Card as Lent}
+
+-- ---- the lists as they are lent
+
+-- the card of the six lists
+abbrev pub lent_card : Lent → Card
+lent_card c =
+    card_of c.row_counts.now c.row_sizes.now c.row_colours.now c.column_counts.now c.column_sizes.now c.column_colours.now
+
+-- the card of the four lists of a binary one
+abbrev pub lent_black_card : BlackCard → Card
+lent_black_card c = black_card c.row_counts.now c.row_sizes.now c.column_counts.now c.column_sizes.now
 
 -- ---- a line's part
 
@@ -19,6 +33,21 @@ part_of (Column x) rc rows cc columns = part cc x.0 columns
 pub record Counts (counts list : List ℕ) : Type 0 where
   pub lines : length counts ≤ 64
   pub total : sum counts ≡ length list
+
+-- the sizes and the colours of a line
+abbrev pub sizes_at : LinePosition → Card → List ℕ
+sizes_at l c = part_of l c.row_counts c.row_sizes c.column_counts c.column_sizes
+
+abbrev pub colours_at : LinePosition → Card → List ℕ
+colours_at l c = part_of l c.row_counts c.row_colours c.column_counts c.column_colours
+
+-- what is asked so that a line's parts can be cut out: it is a line of the card, whose lists are as long as the counts say
+pub record Cut (l : LinePosition) (c : Card) : Type 0 where
+  pub on : On (length c.column_counts) (length c.row_counts) l
+  pub row_sizes : Counts c.row_counts c.row_sizes
+  pub row_colours : Counts c.row_counts c.row_colours
+  pub column_sizes : Counts c.column_counts c.column_sizes
+  pub column_colours : Counts c.column_counts c.column_colours
 
 -- ---- the rules, by the outcomes of their tests
 

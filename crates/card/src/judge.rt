@@ -1,26 +1,30 @@
-// The rules 1 to 4 of a card, and of what is lent with it for a run. Each is found before anything is written.
+// The rules 1 to 4 of a card, and of what is lent with it for a run. Each is found before anything is written. Width and height stay two numbers:
+// the words of all contracts take them so.
 ghost use Rattle.std.specs.Prelude.{◌≡◌, ◌≤◌};
-ghost use Rattle.rules.specs.Card.{black_card, card_of};
 ghost use Rattle.rules.specs.CardRules.{counts_fit, room_fits, card_rules};
 ghost use Rattle.rules.specs.Refusal.{verdict};
-ghost use Rattle.card.specs.Steps.{test_rules, list_rules, legal_rules};
+ghost use Rattle.card.specs.Steps.{lent_card, lent_black_card, list_rules};
 
-use crate::parts::sum_to;
+use crate::parts::{BlackCard, Card, sum_to};
+use rules::Refusal;
 use rules::judge::{any_above, any_empty, any_illegal, judge_sides};
-use rules::{Refusal, Verdict};
+
+// One direction's counts, and how many sizes and colours it has.
+#[derive(Clone, Copy)]
+struct Lengths<'a> {
+    counts: &'a [u32],
+    sizes: usize,
+    colours: usize,
+}
 
 // Whether one direction's lists have the lengths that they must have.
-fn counts_fit(lines: usize, counts: &[u32], sizes: usize, colours: usize) -> bool
+fn counts_fit(lines: usize, lists: Lengths) -> bool
     requires { lines ≤ 64 }
-    ensures { result ≡ counts_fit lines counts.now sizes colours }
+    ensures { result ≡ counts_fit lines lists.entry.counts.now lists.entry.sizes lists.entry.colours }
 {
-    if counts.len() != lines {
-        return false;
-    }
-    if sum_to(counts, lines) != sizes as u64 {
-        return false;
-    }
-    colours == sizes
+    lists.counts.len() == lines
+        && sum_to(lists.counts, lines) == lists.sizes as u64
+        && lists.colours == lists.sizes
 }
 
 // Whether the grid, the memo and the stack have theirs.
@@ -28,41 +32,7 @@ fn room_fits(width: usize, height: usize, cells: usize, memo: usize, stack: usiz
     requires { (width ≤ 64) × (height ≤ 64) }
     ensures { result ≡ room_fits width height cells memo stack }
 {
-    if cells != width * height {
-        return false;
-    }
-    if memo < 4160 {
-        return false;
-    }
-    128 <= stack
-}
-
-// Rules 2 and 3, by the outcomes of their tests.
-fn judge_tests(
-    roomy: bool,
-    rows_fit: bool,
-    columns_fit: bool,
-    rows_crowded: bool,
-    columns_crowded: bool,
-) -> Verdict
-    ensures { result ≡ verdict (test_rules roomy rows_fit columns_fit rows_crowded columns_crowded) }
-{
-    if !roomy {
-        return Verdict::Bad(Refusal::BadRoom);
-    }
-    if !rows_fit {
-        return Verdict::Bad(Refusal::BadRoom);
-    }
-    if !columns_fit {
-        return Verdict::Bad(Refusal::BadRoom);
-    }
-    if rows_crowded {
-        return Verdict::Bad(Refusal::TooManyBlocks);
-    }
-    if columns_crowded {
-        return Verdict::Bad(Refusal::TooManyBlocks);
-    }
-    Verdict::Fine
+    cells == width * height && 4160 <= memo && 128 <= stack
 }
 
 // Rules 1 to 3, by the counts and the other lists' lengths.
@@ -70,46 +40,24 @@ fn judge_counts(
     width: usize,
     height: usize,
     cells: usize,
-    row_counts: &[u32],
-    row_sizes: usize,
-    row_colours: usize,
-    column_counts: &[u32],
-    column_sizes: usize,
-    column_colours: usize,
+    rows: Lengths,
+    columns: Lengths,
     memo: usize,
     stack: usize,
-) -> Verdict
-    ensures { result ≡ verdict (list_rules width height cells row_counts.now row_sizes row_colours column_counts.now column_sizes column_colours memo stack) }
+) -> Result<(), Refusal>
+    ensures { result ≡ verdict (list_rules width height cells rows.entry.counts.now rows.entry.sizes rows.entry.colours columns.entry.counts.now columns.entry.sizes columns.entry.colours memo stack) }
 {
-    let v = judge_sides(width, height);
-    match v {
-        Verdict::Bad(w) => Verdict::Bad(w),
-        Verdict::Fine => {
-            let roomy = room_fits(width, height, cells, memo, stack);
-            let rows_fit = counts_fit(height, row_counts, row_sizes, row_colours);
-            let columns_fit = counts_fit(width, column_counts, column_sizes, column_colours);
-            judge_tests(
-                roomy,
-                rows_fit,
-                columns_fit,
-                any_above(row_counts, 64),
-                any_above(column_counts, 64),
-            )
-        }
+    judge_sides(width, height)?;
+    if !room_fits(width, height, cells, memo, stack)
+        || !counts_fit(height, rows)
+        || !counts_fit(width, columns)
+    {
+        return Err(Refusal::BadRoom);
     }
-}
-
-// Rule 4, by the outcomes of its tests.
-fn judge_legal(bad_row: bool, bad_column: bool) -> Verdict
-    ensures { result ≡ verdict (legal_rules bad_row bad_column) }
-{
-    if bad_row {
-        return Verdict::Bad(Refusal::BadBlock);
+    if any_above(rows.counts, 64) || any_above(columns.counts, 64) {
+        return Err(Refusal::TooManyBlocks);
     }
-    if bad_column {
-        return Verdict::Bad(Refusal::BadBlock);
-    }
-    Verdict::Fine
+    Ok(())
 }
 
 // Rules 1 to 4 of a coloured card.
@@ -117,68 +65,55 @@ pub fn judge_card(
     width: usize,
     height: usize,
     cells: usize,
-    row_counts: &[u32],
-    row_sizes: &[u32],
-    row_colours: &[u32],
-    column_counts: &[u32],
-    column_sizes: &[u32],
-    column_colours: &[u32],
+    card: Card,
     memo: usize,
     stack: usize,
-) -> Verdict
-    ensures { result ≡ verdict (card_rules width height cells (card_of row_counts.now row_sizes.now row_colours.now column_counts.now column_sizes.now column_colours.now) memo stack) }
+) -> Result<(), Refusal>
+    ensures { result ≡ verdict (card_rules width height cells (lent_card card.entry) memo stack) }
 {
-    let v = judge_counts(
-        width,
-        height,
-        cells,
-        row_counts,
-        row_sizes.len(),
-        row_colours.len(),
-        column_counts,
-        column_sizes.len(),
-        column_colours.len(),
-        memo,
-        stack,
-    );
-    match v {
-        Verdict::Bad(w) => Verdict::Bad(w),
-        Verdict::Fine => judge_legal(
-            any_illegal(row_sizes, row_colours),
-            any_illegal(column_sizes, column_colours),
-        ),
+    let rows = Lengths {
+        counts: card.row_counts,
+        sizes: card.row_sizes.len(),
+        colours: card.row_colours.len(),
+    };
+    let columns = Lengths {
+        counts: card.column_counts,
+        sizes: card.column_sizes.len(),
+        colours: card.column_colours.len(),
+    };
+    judge_counts(width, height, cells, rows, columns, memo, stack)?;
+    if any_illegal(card.row_sizes, card.row_colours)
+        || any_illegal(card.column_sizes, card.column_colours)
+    {
+        return Err(Refusal::BadBlock);
     }
+    Ok(())
 }
 
-// Rules 1 to 4 of a binary card, whose blocks are black.
+// Rules 1 to 4 of a binary card, whose blocks are black. No colours are lent, so nothing could be handed to the function above.
 pub fn judge_black_card(
     width: usize,
     height: usize,
     cells: usize,
-    row_counts: &[u32],
-    row_sizes: &[u32],
-    column_counts: &[u32],
-    column_sizes: &[u32],
+    card: BlackCard,
     memo: usize,
     stack: usize,
-) -> Verdict
-    ensures { result ≡ verdict (card_rules width height cells (black_card row_counts.now row_sizes.now column_counts.now column_sizes.now) memo stack) }
+) -> Result<(), Refusal>
+    ensures { result ≡ verdict (card_rules width height cells (lent_black_card card.entry) memo stack) }
 {
-    let v = judge_counts(
-        width,
-        height,
-        cells,
-        row_counts,
-        row_sizes.len(),
-        row_sizes.len(),
-        column_counts,
-        column_sizes.len(),
-        column_sizes.len(),
-        memo,
-        stack,
-    );
-    match v {
-        Verdict::Bad(w) => Verdict::Bad(w),
-        Verdict::Fine => judge_legal(any_empty(row_sizes), any_empty(column_sizes)),
+    let rows = Lengths {
+        counts: card.row_counts,
+        sizes: card.row_sizes.len(),
+        colours: card.row_sizes.len(),
+    };
+    let columns = Lengths {
+        counts: card.column_counts,
+        sizes: card.column_sizes.len(),
+        colours: card.column_sizes.len(),
+    };
+    judge_counts(width, height, cells, rows, columns, memo, stack)?;
+    if any_empty(card.row_sizes) || any_empty(card.column_sizes) {
+        return Err(Refusal::BadBlock);
     }
+    Ok(())
 }

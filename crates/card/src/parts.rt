@@ -2,22 +2,36 @@
 ghost use Rattle.std.specs.Prelude.{◌≡◌, ◌≤◌, ◌<◌, length, take};
 ghost use Rattle.rules.specs.Board.{On};
 ghost use Rattle.rules.specs.Card.{sum, part};
-ghost use Rattle.card.specs.Steps.{part_of, Counts};
+ghost use Rattle.card.specs.Steps.{lent_card, part_of, Counts, Cut, sizes_at, colours_at};
 
 use rules::LinePosition;
+
+// The six lists of a card, as they are lent: per direction a count for each line, and the sizes and colours of all blocks, line after line.
+#[derive(Clone, Copy)]
+pub struct Card<'a> {
+    pub row_counts: &'a [u32],
+    pub row_sizes: &'a [u32],
+    pub row_colours: &'a [u32],
+    pub column_counts: &'a [u32],
+    pub column_sizes: &'a [u32],
+    pub column_colours: &'a [u32],
+}
+
+// The four lists of a binary card, whose blocks are black: there are no colours.
+#[derive(Clone, Copy)]
+pub struct BlackCard<'a> {
+    pub row_counts: &'a [u32],
+    pub row_sizes: &'a [u32],
+    pub column_counts: &'a [u32],
+    pub column_sizes: &'a [u32],
+}
 
 // The blocks of the lines before line i.
 pub(crate) fn sum_to(counts: &[u32], i: usize) -> u64
     requires { (i ≤ length counts.now) × (length counts.now ≤ 64) }
     ensures { result ≡ sum (take i counts.now) }
 {
-    let mut total: u64 = 0;
-    let mut j = 0;
-    while j < i {
-        total += counts[j] as u64;
-        j += 1;
-    }
-    total
+    counts[..i].iter().map(|&count| count as u64).sum()
 }
 
 // The part of a list that belongs to line i.
@@ -44,5 +58,30 @@ pub fn line_part<'a>(
     match line {
         LinePosition::Row(y) => part_of(row_counts, rows, y.0),
         LinePosition::Column(x) => part_of(column_counts, columns, x.0),
+    }
+}
+
+impl<'a> Card<'a> {
+    // The sizes and the colours of a line: its part of the lists of its direction.
+    pub fn clue(self, line: LinePosition) -> (&'a [u32], &'a [u32])
+        requires { Cut line (lent_card self) }
+        ensures sizes { result.0.now ≡ sizes_at line (lent_card self.entry) }
+        ensures colours { result.1.now ≡ colours_at line (lent_card self.entry) }
+    {
+        let sizes = line_part(
+            line,
+            self.row_counts,
+            self.row_sizes,
+            self.column_counts,
+            self.column_sizes,
+        );
+        let colours = line_part(
+            line,
+            self.row_counts,
+            self.row_colours,
+            self.column_counts,
+            self.column_colours,
+        );
+        (sizes, colours)
     }
 }

@@ -1,4 +1,4 @@
-pub mod Leads
+pub mod Runs
 pub mod Told
 pub mod Unique
 pub mod Order

@@ -1,85 +1,49 @@
 // The clue of one line of codes, written to one of the lists.
-ghost use Rattle.std.specs.Prelude.{◌≡◌, ◌∷◌, [], suc, ◌+◌, ◌≤◌, ◌<◌, length, get_or, drop};
-ghost use Rattle.rules.specs.Clue.{clue};
+ghost use Rattle.std.specs.Prelude.{◌≡◌, ◌∷◌, [], ◌+◌, ◌≤◌, ◌<◌, length};
 ghost use Rattle.loops.specs.Put.{Put};
-ghost use Rattle.clue.specs.Steps.{field, fields, lead, Writable, per, entries};
+ghost use Rattle.clue.specs.Steps.{fields, Writable, per, entries, clue_in};
 
-use crate::Part;
+use crate::{Field, Part, Reading};
 
-// A block's size, or its colour.
-fn field_of(tint: bool, size: u32, colour: u32) -> u32
-    ensures { result ≡ field tint size colour }
-{
-    if tint { colour } else { size }
-}
-
-// How many codes from `from` on equal the one there.
-fn run_length(line: &[u32], from: usize) -> usize
-    requires { from < length line.now }
-    ensures { result ≡ suc (lead (get_or line.now from 0) (drop (from + 1) line.now)) }
-{
-    let code = line[from];
-    let mut i = from + 1;
-    while i < line.len() {
-        if line[i] != code {
-            return i - from;
-        }
-        i += 1;
-    }
-    i - from
-}
-
-// The sizes, or the colours, of the line's runs, from index `at` of the list on.
-fn write_runs(line: &[u32], blank: u32, tint: bool, out: &mut [u32], at: usize) -> usize
+// A number of each of the line's blocks, from index `at` of the list on.
+fn write_blocks(line: &[u32], reading: Reading, field: Field, out: &mut [u32], at: usize) -> usize
     requires { Writable line.now out.old at }
-    ensures { Put out.old at (fields tint (clue blank line.now)) result out.new }
+    ensures { Put out.old at (fields field (clue_in reading line.now)) result out.new }
 {
-    let mut index = 0;
     let mut count = at;
-    while index < line.len() {
-        let code = line[index];
-        let size = run_length(line, index);
-        index += size;
-        if code != blank {
-            out[count] = field_of(tint, size as u32, code);
+    for run in line.chunk_by(|a, b| reading.read(*a) == reading.read(*b)) {
+        if run[0] != reading.blank {
+            out[count] = field.of(run.len() as u32, reading.read(run[0]));
             count += 1;
         }
     }
     count
 }
 
-// How many runs the line has.
-fn count_runs(line: &[u32], blank: u32) -> usize
-    ensures { result ≡ length (clue blank line.now) }
+// How many blocks the line has.
+fn count_blocks(line: &[u32], reading: Reading) -> usize
+    ensures { result ≡ length (clue_in reading line.now) }
 {
-    let mut index = 0;
-    let mut count = 0;
-    while index < line.len() {
-        let code = line[index];
-        index += run_length(line, index);
-        if code != blank {
-            count += 1;
-        }
-    }
-    count
+    line.chunk_by(|a, b| reading.read(*a) == reading.read(*b))
+        .filter(|run| run[0] != reading.blank)
+        .count()
 }
 
-fn write_count(line: &[u32], blank: u32, out: &mut [u32], at: usize) -> usize
+fn write_count(line: &[u32], reading: Reading, out: &mut [u32], at: usize) -> usize
     requires { (length line.now ≤ 64) × (at < length out.old) }
-    ensures { Put out.old at (length (clue blank line.now) ∷ []) result out.new }
+    ensures { Put out.old at (length (clue_in reading line.now) ∷ []) result out.new }
 {
-    out[at] = count_runs(line, blank) as u32;
+    out[at] = count_blocks(line, reading) as u32;
     at + 1
 }
 
-// The line's entries in one of the lists.
-pub(crate) fn write_line(line: &[u32], blank: u32, part: Part, out: &mut [u32], at: usize) -> usize
+// The line's entries in one of the lists, from index `at` on. The two stay parameters: each caller goes on with the list itself.
+pub fn write_clue(line: &[u32], reading: Reading, part: Part, out: &mut [u32], at: usize) -> usize
     requires { (length line.now ≤ 64) × (at + per part (length line.now) ≤ length out.old) }
-    ensures { Put out.old at (entries part (clue blank line.now)) result out.new }
+    ensures { Put out.old at (entries part (clue_in reading line.now)) result out.new }
 {
     match part {
-        Part::Count => write_count(line, blank, out, at),
-        Part::Size => write_runs(line, blank, false, out, at),
-        Part::Colour => write_runs(line, blank, true, out, at),
+        Part::Count => write_count(line, reading, out, at),
+        Part::Each(field) => write_blocks(line, reading, field, out, at),
     }
 }

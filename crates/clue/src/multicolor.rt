@@ -1,27 +1,31 @@
 // The clue of a coloured line: sizes and colours.
 ghost use Rattle.clue.specs.Calls.{ColouredClue};
 
-use crate::Part;
-use crate::judge::{bad_code, judge_line};
-use crate::line::write_line;
-use rules::judge::both_room;
-use rules::{ListAnswer, Verdict};
+use crate::judge::{bad_code, judge_codes};
+use crate::line::write_clue;
+use crate::{Field, Ink, Part, Reading};
+use rules::Refusal;
+use rules::judge::{both_room, judge_length};
 
 // The clue of a line of codes: its maximal runs of equal codes that are not blank.
-pub fn from_line(codes: &[u32], blank: u32, sizes: &mut [u32], colours: &mut [u32]) -> ListAnswer
+pub fn from_line(
+    codes: &[u32],
+    blank: u32,
+    sizes: &mut [u32],
+    colours: &mut [u32],
+) -> Result<usize, Refusal>
     ensures { ColouredClue blank codes.now sizes.old colours.old result sizes.new colours.new }
 {
-    let v = judge_line(
-        codes.len(),
+    judge_length(codes.len())?;
+    judge_codes(
         both_room(codes.len(), sizes.len(), colours.len()),
         bad_code(codes, blank),
-    );
-    match v {
-        Verdict::Bad(w) => ListAnswer::Refused(w),
-        Verdict::Fine => {
-            let entries = write_line(codes, blank, Part::Size, sizes, 0);
-            write_line(codes, blank, Part::Colour, colours, 0);
-            ListAnswer::Done { entries }
-        }
-    }
+    )?;
+    let reading = Reading {
+        ink: Ink::Coloured,
+        blank,
+    };
+    let blocks = write_clue(codes, reading, Part::Each(Field::Size), sizes, 0);
+    write_clue(codes, reading, Part::Each(Field::Colour), colours, 0);
+    Ok(blocks)
 }

@@ -1,13 +1,13 @@
 -- The rules of each public call stand in the order of their numbers, so that a refusal tells the lowest number of a broken rule.
+use Rattle.std.specs.Prelude.{Err}
 use mathlib.Core.Path.{◌≡◌, refl}
 use mathlib.Core.Bool.{Bool}
 use Rattle.rules.specs.Block.{Lent}
 use Rattle.rules.specs.Refusal.{verdict, Lowest}
 use Rattle.rules.specs.declared.Refusal.{Refusal}
-use Rattle.rules.specs.declared.Verdict.TheVariants.{Bad}
 use Rattle.rules.proofs.Verdicts.{verdict_lowest}
 use Rattle.description.specs.Calls.{description_rules}
 
 -- Description::new
-pub description_lowest : (b : Lent) (fits : Bool) {w : Refusal} → verdict (description_rules b fits) ≡ Bad w → Lowest (description_rules b fits) w
+pub description_lowest : (b : Lent) (fits : Bool) {w : Refusal} → verdict (description_rules b fits) ≡ Err w → Lowest (description_rules b fits) w
 description_lowest b fits e = verdict_lowest 0 (description_rules b fits) refl e

@@ -1,90 +1,51 @@
 -- The statements of the public calls, from what their parts tell.
-use lib.ListN.{take, replicate, length, length-map}
-use mathlib.Core.Path.{subst, ◌≡◌, sym, ap, ◌∙◌}
-use Rattle.rules.proofs.Replies.{writes_refused, writes_done, blocks_refused, blocks_done}
-use Rattle.rules.proofs.Verdicts.{Counted, count_fine, count_same}
-use mathlib.Core.Bool.{Bool, true, ◌&&◌}
+use Rattle.std.specs.Prelude.{Ok}
+use lib.ListN.{length, length-map}
+use mathlib.Core.Path.{◌≡◌, ◌∙◌}
+use Rattle.rules.proofs.Replies.{writes_done, blocks_done}
+use Rattle.rules.proofs.Verdicts.{count_fine}
+use mathlib.Core.Bool.{◌&&◌}
 use mathlib.Core.List.{List, map}
 use Prim.Native.Nat.{ℕ, ◌≤◌}
 use native.Mathlib.Omega.{arith}
-use borrow.Author.Tests.{leb-true, eqb-true}
-use lib.Dec.{eqb, leb}
-use Rattle.rules.specs.Block.{Block, black, sizes_by, blocks, coloured, binary}
+use borrow.Author.Tests.{leb-true}
+use Rattle.rules.specs.Block.{Block, Lent, sizes_by, colours_by}
 use Rattle.rules.specs.Clue.{coloured_default, binary_default, described}
-use Rattle.rules.specs.Refusal.{Rule, verdict, count_rules}
-use Rattle.rules.specs.declared.Refusal.{Refusal}
-use Rattle.rules.specs.declared.Verdict.TheVariants.{Fine, Bad}
-use Rattle.rules.specs.declared.ListAnswer.TheVariants.{Done, Refused}
+use Rattle.rules.specs.Refusal.{roomy, verdict, written}
 use Rattle.rules.proofs.Tests.{rooms}
-use Rattle.rules.proofs.Blocks.{length_blocks, black_blocks, blacks_length}
 use Rattle.loops.specs.Put.{Put}
 use Rattle.loops.proofs.Going.{put_count, put_written}
-use Rattle.rules.specs.Refusal.{roomy}
 use Rattle.description.specs.Calls.{description_rules, ColouredDescription, BinaryDescription}
-use Rattle.description.specs.Steps.{Retainable, Retained}
 use Rattle.description.proofs.Described.{length_described}
+
+-- what stands in a list to which f of each block that is kept was written
+module _ (d : ℕ) (f : Block → ℕ) (bs : List Block) where
+  kept : length (map f (described d bs)) ≡ length (described d bs)
+  kept = length-map (described d bs) f
+
+  module _ {out out' : List ℕ} {n : ℕ} (p : Put out 0 (map f (described d bs)) n out') where
+    kept_count : n ≡ length (described d bs)
+    kept_count = put_count p ∙ kept
+
+    kept_written : length bs ≤ length out → out' ≡ written (map f (described d bs)) out
+    kept_written h = put_written p (omega (arith, kept, length_described d bs, h))
 
 -- ---- Description::new
 
-module _ (ns cs os oc : List ℕ) (t : Bool) (te : t ≡ (leb (length ns) (length os) && leb (length ns) (length oc))) where
-  abbrev rules : List Rule
-  rules = count_rules (eqb (length ns) (length cs)) (length ns) t
+module _ (b : Lent) (os oc : List ℕ) (e : verdict (description_rules b (roomy b os && roomy b oc)) ≡ Ok tt) where
+  rooms_of : (length b.list ≤ length os) × (length b.list ≤ length oc)
+  rooms_of =
+      rooms (length b.list) (length os) (length oc) (count_fine b.paired (length b.list) (roomy b os && roomy b oc) e).room
 
-  same_rules : verdict (description_rules (coloured ns cs) (roomy (coloured ns cs) os && roomy (coloured ns cs) oc)) ≡ verdict rules
-  same_rules =
-      count_same ns cs (λ n. leb n (length os) && leb n (length oc))
-      ∙ ap (λ u. verdict (count_rules (eqb (length ns) (length cs)) (length ns) u)) (sym te)
+  pub description_done : {m n : ℕ} {os' oc' : List ℕ} → Put os 0 (sizes_by (described coloured_default b.list)) m os'
+      → Put oc 0 (colours_by (described coloured_default b.list)) n oc' → ColouredDescription b os oc (Ok n) os' oc'
+  description_done p q =
+      blocks_done e (kept_count coloured_default (λ x. x.colour) b.list q) (kept_written coloured_default (λ x. x.size) b.list p rooms_of.0)
+      (kept_written coloured_default (λ x. x.colour) b.list q rooms_of.1)
 
-  pub description_refused : {w : Refusal} → verdict rules ≡ Bad w → ColouredDescription (coloured ns cs) os oc (Refused w) os oc
-  description_refused e = blocks_refused (same_rules ∙ e)
-
-  module _ (e : verdict rules ≡ Fine) where
-    pub retainable : Retainable ns cs os oc
-    retainable =
-        let p = count_fine (eqb (length ns) (length cs)) (length ns) t e in
-        let q = rooms (length ns) (length os) (length oc) (sym te ∙ p.room) in
-        record { equal = eqb-true (length ns) (length cs) p.one_length; sizes_room = q.0; colours_room = q.1 }
-
-    pub description_done : {n : ℕ} {os' oc' : List ℕ} → Retained coloured_default (blocks ns cs) os oc n os' oc'
-        → ColouredDescription (coloured ns cs) os oc (Done n) os' oc'
-    description_done p =
-        let bs = described coloured_default (blocks ns cs) in
-        let r = retainable in
-        let l : length bs ≤ length ns = omega (arith, length_described coloured_default (blocks ns cs), length_blocks ns cs r.equal) in
-        let s = length-map bs (λ b. b.size) in
-        let c = length-map bs (λ b. b.colour) in
-        blocks_done (same_rules ∙ e) (put_count p.size_list ∙ s) (put_written p.size_list (omega (arith, r.sizes_room)))
-        (put_written p.colour_list (omega (arith, r.colours_room)))
-
--- binary: black blocks, of which the colours are not told
-module _ (ns out : List ℕ) where
-  same_count : verdict (description_rules (binary ns) (roomy (binary ns) out)) ≡ verdict (count_rules true (length ns) (leb (length ns) (length out)))
-  same_count = ap (λ n. verdict (count_rules true n (leb n (length out)))) (length-map ns black)
-
-  pub described_refused : {w : Refusal} → verdict (count_rules true (length ns) (leb (length ns) (length out))) ≡ Bad w
-      → BinaryDescription (binary ns) out (Refused w) out
-  described_refused e = writes_refused (same_count ∙ e)
-
-  module _ (e : verdict (count_rules true (length ns) (leb (length ns) (length out))) ≡ Fine) where
-    binary_counted : Counted true (length ns) (leb (length ns) (length out))
-    binary_counted = count_fine true (length ns) (leb (length ns) (length out)) e
-
-    pub binary_few : length ns ≤ 64
-    binary_few = binary_counted.few
-
-    room : length ns ≤ length out
-    room = leb-true (length ns) (length out) binary_counted.room
-
-    pub binary_retainable : Retainable ns (take (length ns) (replicate 64 2)) out (replicate 64 0)
-    binary_retainable = record { equal = sym (blacks_length (length ns) 64 binary_few); sizes_room = room; colours_room = binary_few }
-
-    pub described_done : {n : ℕ} {out' tints tints' : List ℕ}
-        → Retained binary_default (blocks ns (take (length ns) (replicate 64 2))) out tints n out' tints'
-        → BinaryDescription (binary ns) out (Done n) out'
-    described_done {n} {out'} p =
-        let bs = described binary_default (map black ns) in
-        let q : Put out 0 (sizes_by bs) n out' =
-        subst (λ (l : List Block). Put out 0 (sizes_by (described binary_default l)) n out') (black_blocks ns 64 binary_few)
-        p.size_list in
-        writes_done (same_count ∙ e) (put_count q)
-        (put_written q (omega (arith, length-map bs (λ b. b.size), length_described binary_default (map black ns), length-map ns black, room)))
+-- binary: the colours are not told
+module _ (b : Lent) (out : List ℕ) (e : verdict (description_rules b (roomy b out)) ≡ Ok tt) where
+  pub described_done : {n : ℕ} {out' : List ℕ} → Put out 0 (sizes_by (described binary_default b.list)) n out' → BinaryDescription b out (Ok n) out'
+  described_done p =
+      let h = leb-true (length b.list) (length out) (count_fine b.paired (length b.list) (roomy b out) e).room in
+      writes_done e (put_count p) (kept_written binary_default (λ x. x.size) b.list p h)

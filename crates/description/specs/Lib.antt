@@ -1,3 +1,2 @@
--- `Calls` is what the public calls promise; `Steps` is what the private functions say.
+-- `Calls` is what the public calls promise.
 pub mod Calls
-pub mod Steps

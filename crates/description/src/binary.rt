@@ -1,23 +1,18 @@
-// Binary blocks: a list of sizes. They are black, of colour 2, and their colours are not told.
+// Binary blocks: a list of sizes. Their colours are not told: `sp_binary_description` lends one list where `sp_description` lends two.
 ghost use Rattle.rules.specs.Block.{binary};
 ghost use Rattle.description.specs.Calls.{BinaryDescription};
 
 use crate::base::retain;
+use block::Blocks;
+use block::binary::{BLACK, Binary};
+use rules::Refusal;
 use rules::judge::judge_count;
-use rules::{ListAnswer, Verdict};
 
 // Description::new: the blocks but for those of size 0, in order.
-pub fn description_new(sizes: &[u32], out_sizes: &mut [u32]) -> ListAnswer
-    ensures { BinaryDescription (binary sizes.now) out_sizes.old result out_sizes.new }
+pub fn description_new(blocks: &Binary<'_>, out_sizes: &mut [u32]) -> Result<usize, Refusal>
+    ensures { BinaryDescription (binary blocks.now.sizes.now) out_sizes.old result out_sizes.new }
 {
-    let v = judge_count(true, sizes.len(), sizes.len() <= out_sizes.len());
-    match v {
-        Verdict::Bad(w) => ListAnswer::Refused(w),
-        Verdict::Fine => {
-            let black = [2u32; 64];
-            let mut out_colours = [0u32; 64];
-            let entries = retain(sizes, &black[..sizes.len()], 2, out_sizes, &mut out_colours);
-            ListAnswer::Done { entries }
-        }
-    }
+    let count = blocks.count();
+    judge_count(true, count, count <= out_sizes.len())?;
+    Ok(retain(blocks, BLACK, |size, _| size, out_sizes))
 }

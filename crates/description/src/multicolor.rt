@@ -3,28 +3,23 @@ ghost use Rattle.rules.specs.Block.{coloured};
 ghost use Rattle.description.specs.Calls.{ColouredDescription};
 
 use crate::base::retain;
+use block::Blocks;
+use block::multicolor::Coloured;
+use rules::Refusal;
 use rules::judge::{both_room, judge_count};
-use rules::{ListAnswer, Verdict};
 
 // Description::new: the blocks but for those of size 0 and colour 0, in order.
 pub fn description_new(
-    sizes: &[u32],
-    colours: &[u32],
+    blocks: &Coloured<'_>,
     out_sizes: &mut [u32],
     out_colours: &mut [u32],
-) -> ListAnswer
-    ensures { ColouredDescription (coloured sizes.now colours.now) out_sizes.old out_colours.old result out_sizes.new out_colours.new }
+) -> Result<usize, Refusal>
+    ensures { ColouredDescription (coloured blocks.now.sizes.now blocks.now.colours.now) out_sizes.old out_colours.old result out_sizes.new out_colours.new }
 {
-    let v = judge_count(
-        sizes.len() == colours.len(),
-        sizes.len(),
-        both_room(sizes.len(), out_sizes.len(), out_colours.len()),
-    );
-    match v {
-        Verdict::Bad(w) => ListAnswer::Refused(w),
-        Verdict::Fine => {
-            let entries = retain(sizes, colours, 0, out_sizes, out_colours);
-            ListAnswer::Done { entries }
-        }
-    }
+    let paired = blocks.sizes.len() == blocks.colours.len();
+    let count = blocks.count();
+    let roomy = both_room(count, out_sizes.len(), out_colours.len());
+    judge_count(paired, count, roomy)?;
+    retain(blocks, 0, |size, _| size, out_sizes);
+    Ok(retain(blocks, 0, |_, colour| colour, out_colours))
 }

@@ -1,6 +1,7 @@
 -- From call to call: a picture's clues, as the call for clues left them, are lent to a full run on any start that holds the picture. The run
 -- answers 0, and its end holds the picture.
-use mathlib.Core.Path.{◌≡◌, sym, ap, ◌∙◌}
+use Rattle.std.specs.Prelude.{Result, Ok}
+use mathlib.Core.Path.{◌≡◌, refl, sym, ap, ◌∙◌}
 use mathlib.Core.List.{List, map}
 use Prim.Native.Nat.{ℕ, ◌*◌, ◌≤◌}
 use native.Mathlib.Omega.{arith}
@@ -12,29 +13,26 @@ use Rattle.rules.specs.Card.{Card}
 use Rattle.rules.specs.Clue.{read_code, black_white}
 use Rattle.rules.specs.Refusal.{memo_size, stack_size}
 use Rattle.rules.specs.Run.{room}
-use Rattle.rules.proofs.Replies.{by_checking}
 use Rattle.rules.proofs.Searching.{none_above}
 use Rattle.picture.specs.Calls.{BinaryClues, ColouredClues, card_in, black_card_in}
-use Rattle.picture.specs.declared.CluesAnswer.{CluesAnswer}
-use Rattle.picture.specs.declared.CluesAnswer.TheVariants.{Done, Refused}
+use Rattle.rules.specs.declared.Refusal.{Refusal}
+use Rattle.picture.specs.declared.Totals.{Totals}
 use Rattle.picture.proofs.Pictures.{picture_of_clues, clues_lent, picture_of_binary_clues, binary_clues_lent}
 use Rattle.run.specs.Ends.{Reply}
 use Rattle.run.specs.declared.Start.TheVariants.{Full}
 use Rattle.propagation.specs.Answered.{Answered, coloured, binary, Passed, Placed}
-use Rattle.propagation.specs.Calls.{RunsColoured, RunsBinary}
+use Rattle.propagation.specs.Calls.{RunsColoured, RunsBinary, set_cells, binary_cells}
 use Rattle.propagation.proofs.Meaning.{fine_passed, picture_done, picture_kept}
-use Rattle.propagation.proofs.Told.{run_fine, binary_fine, report_fine}
+use Rattle.propagation.proofs.Told.{full_fine}
 use Rattle.replies.specs.Replies.{Told, tell_clues_of, tell_run}
+use Rattle.device.proofs.Zero.{told_zero}
 use Rattle.replies.specs.declared.clues.CluesReply.{CluesReply}
 use Rattle.replies.specs.declared.runs.RunReply.{RunReply}
 
 -- with 0 the statement holds of the answer that has the struct's counts
-clues_done : {Says : CluesAnswer → Type 0} {x : CluesReply} → Told tell_clues_of Says x → x.number ≡ 0 → Says (Done x.rows x.columns)
-clues_done {Says} {x} a z = go a.answer a.says a.tells
-  where
-    go : (r : CluesAnswer) → Says r → x ≡ tell_clues_of r → Says (Done x.rows x.columns)
-    go (Done m n) s e = rw e s
-    go (Refused w) s e = absurd ((by_checking w).0 (sym (ap (λ k. k.number) e) ∙ z))
+clues_done : {Says : Result Totals Refusal → Type 0} {x : CluesReply} → Told tell_clues_of Says x → x.number ≡ 0
+    → Says (Ok (record { rows = x.rows; columns = x.columns }))
+clues_done a z = let t = told_zero (λ k. k.number) (λ w. refl) a z in rw t.1 t.2
 
 -- a start that holds a picture has its size
 start_size : {w h : ℕ} (c : Card) {m : List ℕ} → Picture (Placed w h c) w h m → {b₀ : List ℕ} → Within m b₀ → length b₀ ≡ w * h
@@ -63,7 +61,7 @@ module _ {e w h : ℕ} {codes rc rs rt cc cs ct rc' rs' rt' cc' cs' ct' : List �
       let c = clues_done a z in
       let q = picture_of_clues c in
       let k = clues_lent c (length grid) (length memo) (length stack) (start_size _ q u) m s in
-      let v = run_fine w h Full lent grid (length report) (length memo) (length stack) k ∙ report_fine w h (length report) (room grid) r in
+      let v = full_fine set_cells w h lent grid (length report) (length memo) (length stack) k refl r in
       run_keeps q u (coloured b.says) (fine_passed b.says v) b.tells
 
 -- ---- binary: `sp_binary_clues`, then `sp_run_binary`
@@ -85,7 +83,5 @@ module _ (e w h : ℕ) (codes : List ℕ) {rc rs cc cs rc' rs' cc' cs' : List �
       let q = picture_of_binary_clues e w h x.rows x.columns codes c in
       let size = sym (length-map grid set_by) ∙ start_size _ q u in
       let k = binary_clues_lent e w h x.rows x.columns codes c (length grid) (length memo) (length stack) size m s in
-      let v =
-      binary_fine w h Full black_lent grid (length report) (length memo) (length stack) k (none_above 2 grid (λ i o. low i))
-      ∙ report_fine w h (length report) (room (map set_by grid)) r in
+      let v = full_fine binary_cells w h black_lent grid (length report) (length memo) (length stack) k (rw (none_above 2 grid (λ i o. low i))) r in
       run_keeps q u (binary b.says) (fine_passed b.says v) b.tells

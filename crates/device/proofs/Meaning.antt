@@ -1,5 +1,6 @@
 -- What the exported calls that solve or run, or tell binary clues, say in the words of C: their number or their struct. s is Full for a full
 -- run, else a point.
+use Rattle.std.specs.Prelude.{Ok}
 use mathlib.Core.Path.{◌≡◌, sym, ap, ◌∙◌}
 use mathlib.Core.List.{List, map}
 use Prim.Native.Nat.{ℕ, ◌<◌, ◌≤◌}
@@ -11,11 +12,10 @@ use Rattle.rules.specs.Card.{Card, clue_of, Straight}
 use Rattle.rules.specs.Clue.{black_white}
 use Rattle.rules.specs.Placement.{Placement}
 use Rattle.rules.specs.Refusal.{GoodSides}
-use Rattle.rules.specs.declared.ListAnswer.TheVariants.{Done}
 use Rattle.clue.specs.Calls.{BinaryClue}
 use Rattle.clue.proofs.Again.{own_clue}
 use Rattle.picture.specs.Calls.{BinaryClues, black_card_in}
-use Rattle.picture.specs.declared.CluesAnswer.TheVariants as clues
+use Rattle.picture.specs.Calls.{totals}
 use Rattle.picture.proofs.Fitted.{Fitted}
 use Rattle.picture.proofs.Pictures.{own_clues}
 use Rattle.line.specs.Calls.{SolvesLine, SolvesBinaryLine}
@@ -90,7 +90,7 @@ pub line_own_clue : (e : ℕ) (l : List ℕ) {sizes sizes' : List ℕ} {x : Coun
     → (x.number ≡ 0) × Placement (map black (take x.count sizes')) (length l) (black_white e l)
 line_own_clue e l {sizes' = sizes'} {x = x} a b s c =
     let o = own_clue e l a b s c.says in
-    let t : x ≡ tell_count_of (Done o.count) = c.tells ∙ ap tell_count_of o.done in
+    let t : x ≡ tell_count_of (Ok o.count) = c.tells ∙ ap tell_count_of o.done in
     (ap (λ k. k.number) t, rw t o.placed)
 
 -- sp_binary_clues: every row and every column
@@ -100,5 +100,5 @@ pub picture_own_clues : (e w h : ℕ) (b : List ℕ) {rc rs cc cs rc' rs' cc' cs
     → (x.number ≡ 0) × Picture (Straight w h (clue_of (black_card_in w h x.rows x.columns rc' rs' cc' cs'))) w h (black_white e b)
 picture_own_clues e w h b {x = x} g f c =
     let o = own_clues e w h b g f c.says in
-    let t : x ≡ tell_clues_of (clues.Done o.rows o.columns) = c.tells ∙ ap tell_clues_of o.done in
+    let t : x ≡ tell_clues_of (Ok (totals o.rows o.columns)) = c.tells ∙ ap tell_clues_of o.done in
     (ap (λ k. k.number) t, rw t o.picture)

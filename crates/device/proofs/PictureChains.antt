@@ -1,5 +1,6 @@
 -- From call to call with pictures: what `sp_write_pbm` wrote is read back by `sp_read_pbm`, and a picture that was read goes on to
 -- clue generation: with enough room the call for its clues, with blank 1, answers 0.
+use Rattle.std.specs.Prelude.{Result, Ok, Err}
 use mathlib.Core.Path.{◌≡◌, refl, sym, ap, ◌∙◌}
 use mathlib.Core.Bool.{true, false, ◌&&◌}
 use mathlib.Core.List.{List, ◌∷◌}
@@ -10,23 +11,20 @@ use lib.ListN.{length, take}
 use Rattle.rules.specs.Block.{Block}
 use Rattle.rules.specs.Clue.{bad_code_of}
 use Rattle.rules.specs.Refusal.{Rule, verdict, side_rules, written}
-use Rattle.rules.specs.declared.Verdict.TheVariants.{Fine}
-use Rattle.rules.specs.declared.ListAnswer.{ListAnswer}
-use Rattle.rules.specs.declared.ListAnswer.TheVariants as list
-use Rattle.rules.proofs.Replies.{by_checking, head_one}
+use Rattle.rules.specs.declared.Refusal.{Refusal}
+use Rattle.rules.proofs.Replies.{head_one}
 use Rattle.rules.proofs.Verdicts.{append_fine, sides_good}
 use Rattle.rules.proofs.PbmRounds.{drawn_codes, codes_coloured}
 use Rattle.clue.specs.Calls.{code_rules}
 use Rattle.picture.specs.Calls.{clues_reply, grid_fits, grid_rules, GridLists, BinaryClues, ColouredClues}
-use Rattle.picture.specs.declared.CluesAnswer.{CluesAnswer}
-use Rattle.picture.specs.declared.CluesAnswer.TheVariants as clues
+use Rattle.picture.specs.declared.Totals.{Totals}
 use Rattle.picture.proofs.Fitted.{Fitted, fits_all}
 use Rattle.picture.proofs.Pictures.{binary_fine}
 use Rattle.pbm.specs.Calls.{ReadsPbm, WritesPbm}
-use Rattle.pbm.specs.declared.PbmAnswer.{PbmAnswer}
-use Rattle.pbm.specs.declared.PbmAnswer.TheVariants.{Done, Refused}
+use Rattle.pbm.specs.declared.Sides.{Sides}
 use Rattle.pbm.proofs.Meaning.{PictureRead, read_picture_lem, take_written, written_form, written_read}
 use Rattle.replies.specs.Replies.{Told, tell_count_of, tell_clues_of, tell_pbm_of}
+use Rattle.device.proofs.Zero.{told_zero}
 use Rattle.replies.specs.declared.count.CountReply.{CountReply}
 use Rattle.replies.specs.declared.clues.CluesReply.{CluesReply}
 use Rattle.replies.specs.declared.pictures.PbmReply.{PbmReply}
@@ -35,12 +33,8 @@ use Rattle.rules.specs.Pbm.{pbm_text}
 -- ---- `sp_write_pbm`, then `sp_read_pbm`
 
 -- with 0 the statement holds of the answer that has the struct's count
-count_done : {Says : ListAnswer → Type 0} {x : CountReply} → Told tell_count_of Says x → x.number ≡ 0 → Says (list.Done x.count)
-count_done {Says} {x} a z = go a.answer a.says a.tells
-  where
-    go : (r : ListAnswer) → Says r → x ≡ tell_count_of r → Says (list.Done x.count)
-    go (list.Done n) s e = rw e s
-    go (list.Refused w) s e = absurd ((by_checking w).0 (sym (ap (λ k. k.number) e) ∙ z))
+count_done : {Says : Result ℕ Refusal → Type 0} {x : CountReply} → Told tell_count_of Says x → x.number ≡ 0 → Says (Ok x.count)
+count_done a z = let t = told_zero (λ k. k.number) (λ w. refl) a z in rw t.1 t.2
 
 module _ (w h : ℕ) (b : List ℕ) {text text' : List ℕ} {x : CountReply} (a : Told tell_count_of (λ r. WritesPbm w h b text r text') x)
     (z : x.number ≡ 0) where
@@ -56,21 +50,18 @@ module _ (w h : ℕ) (b : List ℕ) {text text' : List ℕ} {x : CountReply} (a 
 -- ---- `sp_read_pbm`, then `sp_clues` or `sp_binary_clues`
 
 -- with 0 the statement holds of the answer that has the struct's sides
-pbm_done : {Says : PbmAnswer → Type 0} {x : PbmReply} → Told tell_pbm_of Says x → x.number ≡ 0 → Says (Done x.width x.height)
-pbm_done {Says} {x} a z = go a.answer a.says a.tells
-  where
-    go : (r : PbmAnswer) → Says r → x ≡ tell_pbm_of r → Says (Done x.width x.height)
-    go (Done w h) s e = rw e s
-    go (Refused w) s e = absurd ((by_checking w).0 (sym (ap (λ k. k.number) e) ∙ z))
+pbm_done : {Says : Result Sides Refusal → Type 0} {x : PbmReply} → Told tell_pbm_of Says x → x.number ≡ 0
+    → Says (Ok (record { width = x.width; height = x.height }))
+pbm_done a z = let t = told_zero (λ k. k.number) (λ w. refl) a z in rw t.1 t.2
 
 -- a call for clues that breaks no rule answers 0
-clues_zero : {rules : List Rule} {rows columns : List (List Block)} {rc rs cc cs rc' rs' cc' cs' : List ℕ} {r : CluesAnswer} {y : CluesReply}
-    → GridLists rules rows columns rc rs cc cs r rc' rs' cc' cs' → verdict rules ≡ Fine → y ≡ tell_clues_of r → y.number ≡ 0
+clues_zero : {rules : List Rule} {rows columns : List (List Block)} {rc rs cc cs rc' rs' cc' cs' : List ℕ} {r : Result Totals Refusal} {y : CluesReply}
+    → GridLists rules rows columns rc rs cc cs r rc' rs' cc' cs' → verdict rules ≡ Ok tt → y ≡ tell_clues_of r → y.number ≡ 0
 clues_zero {r = r} g v e = ap (λ k. k.number) e ∙ go r (rw v at g.answers)
   where
-    go : (s : CluesAnswer) {l : List ℕ} → clues_reply s ≡ 0 ∷ l → (tell_clues_of s).number ≡ 0
-    go (clues.Done m n) q = refl
-    go (clues.Refused w) q = head_one q
+    go : (s : Result Totals Refusal) {l : List ℕ} → clues_reply s ≡ 0 ∷ l → (tell_clues_of s).number ≡ 0
+    go (Ok n) q = refl
+    go (Err w) q = head_one q
 
 module _ (text : List ℕ) {codes codes' : List ℕ} {x : PbmReply} (a : Told tell_pbm_of (λ r. ReadsPbm text codes r codes') x) (z : x.number ≡ 0) where
   -- the codes that were read, as the call left them
@@ -91,7 +82,7 @@ module _ (text : List ℕ) {codes codes' : List ℕ} {x : PbmReply} (a : Told te
   coloured : bad_code_of 1 codes_in ≡ false
   coloured = ap (bad_code_of 1) codes_read_lem ∙ codes_coloured read.picture (drawn_codes read.text_of.drawn)
 
-  grid_fine : {t u : _} → t ≡ true → u ≡ false → verdict (grid_rules x.width x.height t u) ≡ Fine
+  grid_fine : {t u : _} → t ≡ true → u ≡ false → verdict (grid_rules x.width x.height t u) ≡ Ok tt
   grid_fine {t} {u} p q =
       append_fine (side_rules x.width x.height) (code_rules t u) (sides_good x.width x.height read.sides) ∙ rw (p, q)
 

@@ -1,4 +1,5 @@
 -- At most one struct satisfies the statement of each call, with one content of every list that it is lent.
+use Rattle.std.specs.Prelude.{Err}
 use mathlib.Core.Path.{◌≡◌, sym, ap, ◌∙◌}
 use mathlib.Core.List.{List}
 use Prim.Native.Nat.{ℕ}
@@ -6,7 +7,6 @@ use Rattle.rules.specs.Block.{Block, Lent}
 use Rattle.rules.specs.Refusal.{Rule, verdict, Writes, WritesBlocks}
 use Rattle.rules.specs.Run.{Outcome}
 use Rattle.rules.specs.declared.Refusal.{Refusal}
-use Rattle.rules.specs.declared.Verdict.TheVariants.{Bad}
 use Rattle.rules.proofs.Replies.{same, one_list, two_lists}
 use Rattle.positions.specs.Calls.{PositionsNumber, ColorRanges}
 use Rattle.positions.proofs.Unique.{positions_number_lem, color_ranges_lem}
@@ -70,7 +70,7 @@ pbm_one text p q = let t = read_pbm_lem text p.says q.says in (told_one p q t.0,
 pub run_one : {rules : List Rule} {end : Outcome} {board grid report memo stack g p m k g₂ p₂ m₂ k₂ : List ℕ} {a b : RunReply}
     → Told tell_run (λ t. Ran rules end board grid report memo stack t g p m k) a
     → Told tell_run (λ t. Ran rules end board grid report memo stack t g₂ p₂ m₂ k₂) b
-    → (a ≡ b) × (g ≡ g₂) × (p ≡ p₂) × ((w : Refusal) → verdict rules ≡ Bad w → (m ≡ m₂) × (k ≡ k₂))
+    → (a ≡ b) × (g ≡ g₂) × (p ≡ p₂) × ((w : Refusal) → verdict rules ≡ Err w → (m ≡ m₂) × (k ≡ k₂))
 run_one p q =
     let s = p.says in
     let t = q.says in (

@@ -5,28 +5,30 @@ ghost use Rattle.positions.specs.Calls.{PositionsNumber, ColorRanges};
 ghost use Rattle.description.specs.Calls.{ColouredDescription, BinaryDescription};
 ghost use Rattle.replies.specs.Replies.{Told, tell_count_of, tell_positions_of};
 
-use replies::count::{CountReply, tell_count};
-use replies::number::{PositionsReply, tell_positions};
+use block::binary::Binary;
+use block::multicolor::Coloured;
+use replies::count::CountReply;
+use replies::number::PositionsReply;
 
 // The ends of the blocks in the leftmost packing.
 pub fn sp_partial_sums(sizes: &[u32], colours: &[u32], sums: &mut [u64]) -> CountReply
     ensures { Told tell_count_of (λ a. PartialSums (coloured sizes.now colours.now) sums.old a sums.new) result }
 {
-    tell_count(block::multicolor::partial_sums(sizes, colours, sums))
+    CountReply::from(block::partial_sums(&Coloured { sizes, colours }, sums))
 }
 
 // Their first cells in it.
 pub fn sp_block_starts(sizes: &[u32], colours: &[u32], starts: &mut [u64]) -> CountReply
     ensures { Told tell_count_of (λ a. BlockStarts (coloured sizes.now colours.now) starts.old a starts.new) result }
 {
-    tell_count(block::multicolor::block_starts(sizes, colours, starts))
+    CountReply::from(block::block_starts(&Coloured { sizes, colours }, starts))
 }
 
 // In how many places the leftmost packing, moved as a whole, lies in the line.
 pub fn sp_positions_number(length: usize, sizes: &[u32], colours: &[u32]) -> PositionsReply
     ensures { Told tell_positions_of (PositionsNumber length (coloured sizes.now colours.now)) result }
 {
-    tell_positions(positions::multicolor::positions_number(length, sizes, colours))
+    PositionsReply::from(positions::positions_number(length, &Coloured { sizes, colours }))
 }
 
 // Where the cells of each colour can lie: the colour, the first cell, and the cell after the last.
@@ -40,10 +42,9 @@ pub fn sp_color_ranges(
 ) -> CountReply
     ensures { Told tell_count_of (λ a. ColorRanges length (coloured sizes.now colours.now) out_colours.old out_from.old out_to.old a out_colours.new out_from.new out_to.new) result }
 {
-    tell_count(positions::multicolor::color_ranges(
+    CountReply::from(positions::color_ranges(
         length,
-        sizes,
-        colours,
+        &Coloured { sizes, colours },
         out_colours,
         out_from,
         out_to,
@@ -59,33 +60,37 @@ pub fn sp_description(
 ) -> CountReply
     ensures { Told tell_count_of (λ a. ColouredDescription (coloured sizes.now colours.now) out_sizes.old out_colours.old a out_sizes.new out_colours.new) result }
 {
-    tell_count(description::multicolor::description_new(sizes, colours, out_sizes, out_colours))
+    CountReply::from(description::multicolor::description_new(
+        &Coloured { sizes, colours },
+        out_sizes,
+        out_colours,
+    ))
 }
 
 // The ends of binary blocks in the leftmost packing.
 pub fn sp_binary_partial_sums(sizes: &[u32], sums: &mut [u64]) -> CountReply
     ensures { Told tell_count_of (λ a. PartialSums (binary sizes.now) sums.old a sums.new) result }
 {
-    tell_count(block::binary::partial_sums(sizes, sums))
+    CountReply::from(block::partial_sums(&Binary { sizes }, sums))
 }
 
 // Their first cells in it.
 pub fn sp_binary_block_starts(sizes: &[u32], starts: &mut [u64]) -> CountReply
     ensures { Told tell_count_of (λ a. BlockStarts (binary sizes.now) starts.old a starts.new) result }
 {
-    tell_count(block::binary::block_starts(sizes, starts))
+    CountReply::from(block::block_starts(&Binary { sizes }, starts))
 }
 
 // In how many places it lies in the line.
 pub fn sp_binary_positions_number(length: usize, sizes: &[u32]) -> PositionsReply
     ensures { Told tell_positions_of (PositionsNumber length (binary sizes.now)) result }
 {
-    tell_positions(positions::binary::positions_number(length, sizes))
+    PositionsReply::from(positions::positions_number(length, &Binary { sizes }))
 }
 
 // `Description::new`: the blocks but for those of size 0, in order.
 pub fn sp_binary_description(sizes: &[u32], out_sizes: &mut [u32]) -> CountReply
     ensures { Told tell_count_of (λ a. BinaryDescription (binary sizes.now) out_sizes.old a out_sizes.new) result }
 {
-    tell_count(description::binary::description_new(sizes, out_sizes))
+    CountReply::from(description::binary::description_new(&Binary { sizes }, out_sizes))
 }

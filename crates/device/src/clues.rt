@@ -3,21 +3,21 @@ ghost use Rattle.clue.specs.Calls.{ColouredClue, BinaryClue};
 ghost use Rattle.picture.specs.Calls.{ColouredClues, BinaryClues};
 ghost use Rattle.replies.specs.Replies.{Told, tell_count_of, tell_clues_of};
 
-use replies::clues::{CluesReply, tell_clues};
-use replies::count::{CountReply, tell_count};
+use replies::clues::CluesReply;
+use replies::count::CountReply;
 
 // The clue of a line of codes: its maximal runs of equal codes that are not blank.
 pub fn sp_clue(codes: &[u32], blank: u32, sizes: &mut [u32], colours: &mut [u32]) -> CountReply
     ensures { Told tell_count_of (λ a. ColouredClue blank codes.now sizes.old colours.old a sizes.new colours.new) result }
 {
-    tell_count(clue::multicolor::from_line(codes, blank, sizes, colours))
+    CountReply::from(clue::multicolor::from_line(codes, blank, sizes, colours))
 }
 
 // The clue of a binary line: the sizes of its maximal stretches of codes that are not blank.
 pub fn sp_binary_clue(codes: &[u32], blank: u32, sizes: &mut [u32]) -> CountReply
     ensures { Told tell_count_of (λ a. BinaryClue blank codes.now sizes.old a sizes.new) result }
 {
-    tell_count(clue::binary::from_line(codes, blank, sizes))
+    CountReply::from(clue::binary::from_line(codes, blank, sizes))
 }
 
 // The clues of a picture of width × height codes.
@@ -35,7 +35,7 @@ pub fn sp_clues(
 ) -> CluesReply
     ensures { Told tell_clues_of (λ a. ColouredClues blank width height codes.now row_counts.old row_sizes.old row_colours.old column_counts.old column_sizes.old column_colours.old a row_counts.new row_sizes.new row_colours.new column_counts.new column_sizes.new column_colours.new) result }
 {
-    tell_clues(picture::multicolor::clues_from_solution(
+    CluesReply::from(picture::multicolor::clues_from_solution(
         width,
         height,
         codes,
@@ -62,7 +62,7 @@ pub fn sp_binary_clues(
 ) -> CluesReply
     ensures { Told tell_clues_of (λ a. BinaryClues blank width height codes.now row_counts.old row_sizes.old column_counts.old column_sizes.old a row_counts.new row_sizes.new column_counts.new column_sizes.new) result }
 {
-    tell_clues(picture::binary::clues_from_solution(
+    CluesReply::from(picture::binary::clues_from_solution(
         width,
         height,
         codes,

@@ -4,8 +4,9 @@ ghost use Rattle.run.specs.declared.Start.TheVariants.{Full, Point};
 ghost use Rattle.propagation.specs.Calls.{RunsColoured, RunsBinary};
 ghost use Rattle.replies.specs.Replies.{Told, tell_run};
 
-use propagation::{binary, multicolor};
-use replies::runs::{RunReply, reply_of};
+use card::parts::{BlackCard, Card};
+use propagation::{run, run_point};
+use replies::runs::RunReply;
 use rules::{ColumnIndex, RowIndex};
 
 // A full run on a grid of colour sets, with a coloured card.
@@ -25,16 +26,18 @@ pub fn sp_run<'a, 'b>(
 ) -> RunReply
     ensures { Told tell_run (λ t. RunsColoured width height Full (card_of row_counts.now row_sizes.now row_colours.now column_counts.now column_sizes.now column_colours.now) grid.old report.old memo.old stack.old t grid.new report.new memo.new stack.new) result }
 {
-    reply_of(multicolor::run(
+    RunReply::from(run(
         width,
         height,
         grid,
-        row_counts,
-        row_sizes,
-        row_colours,
-        column_counts,
-        column_sizes,
-        column_colours,
+        &Card {
+            row_counts,
+            row_sizes,
+            row_colours,
+            column_counts,
+            column_sizes,
+            column_colours,
+        },
         report,
         memo,
         stack,
@@ -60,18 +63,20 @@ pub fn sp_run_point<'a, 'b>(
 ) -> RunReply
     ensures { Told tell_run (λ t. RunsColoured width height (Point (record { 0 = x }) (record { 0 = y })) (card_of row_counts.now row_sizes.now row_colours.now column_counts.now column_sizes.now column_colours.now) grid.old report.old memo.old stack.old t grid.new report.new memo.new stack.new) result }
 {
-    reply_of(multicolor::run_point(
+    RunReply::from(run_point(
         width,
         height,
         ColumnIndex(x),
         RowIndex(y),
         grid,
-        row_counts,
-        row_sizes,
-        row_colours,
-        column_counts,
-        column_sizes,
-        column_colours,
+        &Card {
+            row_counts,
+            row_sizes,
+            row_colours,
+            column_counts,
+            column_sizes,
+            column_colours,
+        },
         report,
         memo,
         stack,
@@ -93,14 +98,16 @@ pub fn sp_run_binary<'a>(
 ) -> RunReply
     ensures { Told tell_run (λ t. RunsBinary width height Full (black_card row_counts.now row_sizes.now column_counts.now column_sizes.now) grid.old report.old memo.old stack.old t grid.new report.new memo.new stack.new) result }
 {
-    reply_of(binary::run(
+    RunReply::from(run(
         width,
         height,
         grid,
-        row_counts,
-        row_sizes,
-        column_counts,
-        column_sizes,
+        &BlackCard {
+            row_counts,
+            row_sizes,
+            column_counts,
+            column_sizes,
+        },
         report,
         memo,
         stack,
@@ -124,16 +131,18 @@ pub fn sp_run_binary_point<'a>(
 ) -> RunReply
     ensures { Told tell_run (λ t. RunsBinary width height (Point (record { 0 = x }) (record { 0 = y })) (black_card row_counts.now row_sizes.now column_counts.now column_sizes.now) grid.old report.old memo.old stack.old t grid.new report.new memo.new stack.new) result }
 {
-    reply_of(binary::run_point(
+    RunReply::from(run_point(
         width,
         height,
         ColumnIndex(x),
         RowIndex(y),
         grid,
-        row_counts,
-        row_sizes,
-        column_counts,
-        column_sizes,
+        &BlackCard {
+            row_counts,
+            row_sizes,
+            column_counts,
+            column_sizes,
+        },
         report,
         memo,
         stack,

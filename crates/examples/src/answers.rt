@@ -1,56 +1,78 @@
-// Writes answers: the documents' number, and the values that come with 0.
+// Answers as they are written: the documents' number, and the values that come with 0.
 use replies::clues::CluesReply;
 use replies::count::CountReply;
 use replies::number::PositionsReply;
 use replies::pictures::PbmReply;
-use std::io;
-use vectors::lists::widen;
-use vectors::report::{write_number, write_text};
+use std::fmt;
 
-pub(crate) fn write_answer(rt: &impl Print, number: u32) -> io::Result<()> {
-    write_text(rt, b" ->")?;
-    write_number(rt, widen(number))
+// An answer with one value or two.
+#[derive(Clone, Copy)]
+pub(crate) struct Answer {
+    number: u32,
+    first: u64,
+    second: Option<u64>,
 }
 
-// The number, and with 0 one value.
-fn write_with(rt: &impl Print, number: u32, value: u64) -> io::Result<()> {
-    write_answer(rt, number)?;
-    if number == 0 {
-        write_text(rt, b",")?;
-        write_number(rt, value)?;
+impl From<CountReply> for Answer {
+    fn from(reply: CountReply) -> Answer {
+        Answer {
+            number: reply.number,
+            first: reply.count as u64,
+            second: None,
+        }
     }
-    Ok(())
 }
 
-pub(crate) fn write_count(rt: &impl Print, reply: CountReply) -> io::Result<()> {
-    write_with(rt, reply.number, reply.count as u64)
-}
-
-pub(crate) fn write_positions(rt: &impl Print, reply: PositionsReply) -> io::Result<()> {
-    write_with(rt, reply.number, reply.positions)
-}
-
-// The number, and with 0 two values.
-fn write_pair(rt: &impl Print, number: u32, first: usize, second: usize) -> io::Result<()> {
-    write_with(rt, number, first as u64)?;
-    if number == 0 {
-        write_number(rt, second as u64)?;
+impl From<PositionsReply> for Answer {
+    fn from(reply: PositionsReply) -> Answer {
+        Answer {
+            number: reply.number,
+            first: reply.positions,
+            second: None,
+        }
     }
-    Ok(())
 }
 
-pub(crate) fn write_totals(rt: &impl Print, reply: CluesReply) -> io::Result<()> {
-    write_pair(rt, reply.number, reply.rows, reply.columns)
+impl From<CluesReply> for Answer {
+    fn from(reply: CluesReply) -> Answer {
+        Answer {
+            number: reply.number,
+            first: reply.rows as u64,
+            second: Some(reply.columns as u64),
+        }
+    }
 }
 
-pub(crate) fn write_sides(rt: &impl Print, reply: PbmReply) -> io::Result<()> {
-    write_pair(rt, reply.number, reply.width, reply.height)
+impl From<PbmReply> for Answer {
+    fn from(reply: PbmReply) -> Answer {
+        Answer {
+            number: reply.number,
+            first: reply.width as u64,
+            second: Some(reply.height as u64),
+        }
+    }
+}
+
+impl fmt::Display for Answer {
+    fn fmt<W: fmt::Write>(&self, f: &mut fmt::Formatter<W>) -> fmt::Result {
+        let Answer {
+            number,
+            first,
+            second,
+        } = *self;
+        write!(f, " -> {number}")?;
+        if number != 0 {
+            return Ok(());
+        }
+        write!(f, ", {first}")?;
+        match second {
+            Some(value) => write!(f, " {value}"),
+            None => Ok(()),
+        }
+    }
 }
 
 // The room of an output list; 0 where the case names none.
 pub(crate) fn room_at(rooms: &[u32], at: usize) -> usize {
-    if at < rooms.len() {
-        return widen(rooms[at]) as usize;
-    }
-    0
+    rooms.get(at).map_or(0, |room| *room as usize)
 }

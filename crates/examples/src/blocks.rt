@@ -1,202 +1,94 @@
 // Shows the calls on blocks. A case has a length (0 where the call has none), sizes, colours, and the rooms of the lists to write.
-use crate::answers::{room_at, write_count, write_positions};
-use cases::calls;
-use device::blocks::sp_color_ranges;
+use crate::answers::{Answer, room_at};
+use cases::blocks::{BlockCall, Blocks};
+use cases::calls::Cells;
 use std::io;
 use std::io::Read;
 use vectors::lists;
-use vectors::reader::{Reader, demand};
-use vectors::report::{write_number, write_text};
-use vectors::show::{write_left, write_left_wide, write_list};
+use vectors::lists::{Codes, Lent, Sums};
+use vectors::reader::Reader;
+use vectors::show::{Left, Runs};
 
-fn write_name(rt: &impl Print, call: u64) -> io::Result<()> {
-    match call {
-        1 => write_text(rt, b"sp_partial_sums"),
-        2 => write_text(rt, b"sp_block_starts"),
-        3 => write_text(rt, b"sp_positions_number"),
-        4 => write_text(rt, b"sp_color_ranges"),
-        5 => write_text(rt, b"sp_description"),
-        8 => write_text(rt, b"sp_binary_partial_sums"),
-        9 => write_text(rt, b"sp_binary_block_starts"),
-        10 => write_text(rt, b"sp_binary_positions_number"),
-        _ => write_text(rt, b"sp_binary_description"),
+fn show_given(rt: &impl Print, call: BlockCall, blocks: &Blocks) -> io::Result<()> {
+    print!(rt; "{call}")?;
+    if let BlockCall::PositionsNumber(_) | BlockCall::ColorRanges = call {
+        print!(rt; " length {}", blocks.length)?;
+    }
+    print!(rt; " sizes{}", Runs(blocks.sizes))?;
+    match call.cells() {
+        Cells::Coloured => print!(rt; " colours{}", Runs(blocks.colours)),
+        Cells::Binary => Ok(()),
     }
 }
 
-fn write_given(
-    rt: &impl Print,
-    call: u64,
-    length: usize,
-    sizes: &[u32],
-    colours: &[u32],
-) -> io::Result<()> {
-    write_name(rt, call)?;
-    match call {
-        3 | 4 | 10 => {
-            write_text(rt, b" length")?;
-            write_number(rt, length as u64)?;
-        }
-        _ => {}
-    }
-    write_list(rt, b" sizes", sizes)?;
-    if call < 8 {
-        write_list(rt, b" colours", colours)?;
-    }
-    Ok(())
+// Each call is lent as much room as the case says.
+fn show_sums(rt: &impl Print, cells: Cells, blocks: &Blocks, rooms: &[u32]) -> io::Result<()> {
+    let mut sums: Sums = lists::make_filled(0);
+    let sums = lists::lend(&mut sums, room_at(rooms, 0));
+    let answer = Answer::from(blocks.partial_sums(cells, sums));
+    print!(rt; "{answer}; sums{}", Left(Lent::whole(sums)))
 }
 
-fn show_pack(
-    rt: &impl Print,
-    call: u64,
-    sizes: &[u32],
-    colours: &[u32],
-    sums: &mut [u64],
-) -> io::Result<()> {
-    write_count(rt, calls::pack(call, sizes, colours, sums))?;
-    match call {
-        1 | 8 => write_left_wide(rt, b"; sums", sums),
-        _ => write_left_wide(rt, b"; starts", sums),
-    }
+fn show_starts(rt: &impl Print, cells: Cells, blocks: &Blocks, rooms: &[u32]) -> io::Result<()> {
+    let mut starts: Sums = lists::make_filled(0);
+    let starts = lists::lend(&mut starts, room_at(rooms, 0));
+    let answer = Answer::from(blocks.block_starts(cells, starts));
+    print!(rt; "{answer}; starts{}", Left(Lent::whole(starts)))
 }
 
-fn show_ranges(
-    rt: &impl Print,
-    length: usize,
-    sizes: &[u32],
-    colours: &[u32],
-    out_colours: &mut [u32],
-    out_from: &mut [u64],
-    out_to: &mut [u64],
-) -> io::Result<()> {
-    write_count(
-        rt,
-        sp_color_ranges(length, sizes, colours, out_colours, out_from, out_to),
-    )?;
-    write_left(rt, b"; out_colours", out_colours)?;
-    write_left_wide(rt, b"; out_from", out_from)?;
-    write_left_wide(rt, b"; out_to", out_to)
+fn show_ranges(rt: &impl Print, blocks: &Blocks, rooms: &[u32]) -> io::Result<()> {
+    let mut colours: Codes = lists::make_filled(0);
+    let mut from: Sums = lists::make_filled(0);
+    let mut to: Sums = lists::make_filled(0);
+    let colours = lists::lend(&mut colours, room_at(rooms, 0));
+    let from = lists::lend(&mut from, room_at(rooms, 1));
+    let to = lists::lend(&mut to, room_at(rooms, 2));
+    let answer = Answer::from(blocks.color_ranges(colours, from, to));
+    print!(rt; "{answer}; out_colours{}", Left(Lent::whole(colours)))?;
+    print!(rt; "; out_from{}", Left(Lent::whole(from)))?;
+    print!(rt; "; out_to{}", Left(Lent::whole(to)))
 }
 
 fn show_description(
     rt: &impl Print,
-    call: u64,
-    sizes: &[u32],
-    colours: &[u32],
-    out_sizes: &mut [u32],
-    out_colours: &mut [u32],
+    cells: Cells,
+    blocks: &Blocks,
+    rooms: &[u32],
 ) -> io::Result<()> {
-    write_count(
-        rt,
-        calls::describe(call, sizes, colours, out_sizes, out_colours),
-    )?;
-    write_left(rt, b"; out_sizes", out_sizes)?;
-    if call == 5 {
-        write_left(rt, b"; out_colours", out_colours)?;
+    let mut sizes: Codes = lists::make_filled(0);
+    let mut colours: Codes = lists::make_filled(0);
+    let sizes = lists::lend(&mut sizes, room_at(rooms, 0));
+    let colours = lists::lend(&mut colours, room_at(rooms, 1));
+    let answer = Answer::from(blocks.description(cells, sizes, colours));
+    print!(rt; "{answer}; out_sizes{}", Left(Lent::whole(sizes)))?;
+    match cells {
+        Cells::Coloured => print!(rt; "; out_colours{}", Left(Lent::whole(colours))),
+        Cells::Binary => Ok(()),
     }
-    Ok(())
 }
 
-// Lends as much room as the case says.
-fn lend_sums(
-    rt: &impl Print,
-    call: u64,
-    sizes: &[u32],
-    colours: &[u32],
-    rooms: &[u32],
-) -> io::Result<()> {
-    let mut sums = lists::make_filled_wide();
-    let room = lists::within_wide(room_at(rooms, 0), &sums);
-    show_pack(rt, call, sizes, colours, &mut sums[..room])
-}
-
-fn lend_ranges(
-    rt: &impl Print,
-    length: usize,
-    sizes: &[u32],
-    colours: &[u32],
-    rooms: &[u32],
-) -> io::Result<()> {
-    let mut out_colours = lists::make_filled();
-    let mut out_from = lists::make_filled_wide();
-    let mut out_to = lists::make_filled_wide();
-    let first = lists::within(room_at(rooms, 0), &out_colours);
-    let second = lists::within_wide(room_at(rooms, 1), &out_from);
-    let third = lists::within_wide(room_at(rooms, 2), &out_to);
-    show_ranges(
-        rt,
-        length,
-        sizes,
-        colours,
-        &mut out_colours[..first],
-        &mut out_from[..second],
-        &mut out_to[..third],
-    )
-}
-
-fn lend_description(
-    rt: &impl Print,
-    call: u64,
-    sizes: &[u32],
-    colours: &[u32],
-    rooms: &[u32],
-) -> io::Result<()> {
-    let mut out_sizes = lists::make_filled();
-    let mut out_colours = lists::make_filled();
-    let first = lists::within(room_at(rooms, 0), &out_sizes);
-    let second = lists::within(room_at(rooms, 1), &out_colours);
-    show_description(
-        rt,
-        call,
-        sizes,
-        colours,
-        &mut out_sizes[..first],
-        &mut out_colours[..second],
-    )
-}
-
-fn show_case(
-    rt: &impl Print,
-    call: u64,
-    length: usize,
-    sizes: &[u32],
-    colours: &[u32],
-    rooms: &[u32],
-) -> io::Result<()> {
-    write_given(rt, call, length, sizes, colours)?;
-    match call {
-        3 | 10 => write_positions(rt, calls::count_positions(call, length, sizes, colours))?,
-        4 => lend_ranges(rt, length, sizes, colours, rooms)?,
-        5 | 11 => lend_description(rt, call, sizes, colours, rooms)?,
-        _ => lend_sums(rt, call, sizes, colours, rooms)?,
-    }
-    write_text(rt, b"\n")
+fn show_positions(rt: &impl Print, cells: Cells, blocks: &Blocks) -> io::Result<()> {
+    let answer = Answer::from(blocks.positions_number(cells));
+    print!(rt; "{answer}")
 }
 
 pub(crate) fn show<R: Read>(
     rt: &impl Print,
-    call: u64,
-    input: &mut R,
-    buffer: &mut [u8],
-    reader: Reader,
-) -> io::Result<Reader> {
-    let mut sizes = lists::make();
-    let mut colours = lists::make();
-    let mut rooms = lists::make();
-    let length = demand(input, buffer, reader, u64::MAX)?;
-    let reader = length.reader;
-    let pair = lists::read_pair(input, buffer, reader, &mut sizes, &mut colours)?;
-    let reader = pair.reader;
-    let listed = lists::read(input, buffer, reader, &mut rooms)?;
-    let first = pair.first;
-    let second = pair.second;
-    let third = listed.count;
-    show_case(
-        rt,
-        call,
-        length.value as usize,
-        &sizes[..first],
-        &colours[..second],
-        &rooms[..third],
-    )?;
-    Ok(listed.reader)
+    call: BlockCall,
+    reader: &mut Reader<R>,
+) -> io::Result<()> {
+    let mut sizes: Codes = lists::make();
+    let mut colours: Codes = lists::make();
+    let mut rooms: Codes = lists::make();
+    let blocks = Blocks::read(reader, &mut sizes, &mut colours)?;
+    let rooms = reader.read_into(&mut rooms)?;
+    show_given(rt, call, &blocks)?;
+    match call {
+        BlockCall::PartialSums(cells) => show_sums(rt, cells, &blocks, rooms)?,
+        BlockCall::BlockStarts(cells) => show_starts(rt, cells, &blocks, rooms)?,
+        BlockCall::PositionsNumber(cells) => show_positions(rt, cells, &blocks)?,
+        BlockCall::ColorRanges => show_ranges(rt, &blocks, rooms)?,
+        BlockCall::Description(cells) => show_description(rt, cells, &blocks, rooms)?,
+    }
+    rt.println("")
 }

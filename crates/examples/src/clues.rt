@@ -1,195 +1,81 @@
 // Shows the calls for clues. A case has a width and a height (0 for a line), a blank code, codes, and the rooms of the lists to write.
-use crate::answers::{room_at, write_count, write_totals};
-use cases::calls;
+use crate::answers::{Answer, room_at};
+use cases::calls::Cells;
+use cases::clues::{ClueCall, Written, take_clues, take_line};
 use std::io;
 use std::io::Read;
 use vectors::lists;
-use vectors::lists::{Picture, widen};
+use vectors::lists::{Codes, Lent, Picture};
 use vectors::reader::Reader;
-use vectors::report::{write_number, write_text};
-use vectors::show::{write_left, write_list};
+use vectors::show::{Left, Runs};
 
-fn write_name(rt: &impl Print, call: u64) -> io::Result<()> {
-    match call {
-        6 => write_text(rt, b"sp_clue"),
-        7 => write_text(rt, b"sp_clues"),
-        12 => write_text(rt, b"sp_binary_clue"),
-        _ => write_text(rt, b"sp_binary_clues"),
+fn show_given(rt: &impl Print, call: ClueCall, picture: &Picture) -> io::Result<()> {
+    print!(rt; "{call}")?;
+    if let ClueCall::Picture(_) = call {
+        print!(rt; " width {} height {}", picture.width, picture.height)?;
+    }
+    print!(rt; " blank {} codes{}", picture.blank, Runs(picture.codes))
+}
+
+// Each call is lent as much room as the case says.
+fn show_line(rt: &impl Print, cells: Cells, picture: &Picture, rooms: &[u32]) -> io::Result<()> {
+    let mut sizes: Codes = lists::make_filled(0);
+    let mut colours: Codes = lists::make_filled(0);
+    let sizes = lists::lend(&mut sizes, room_at(rooms, 0));
+    let colours = lists::lend(&mut colours, room_at(rooms, 1));
+    let answer = Answer::from(take_line(cells, picture, sizes, colours));
+    print!(rt; "{answer}; sizes{}", Left(Lent::whole(sizes)))?;
+    match cells {
+        Cells::Coloured => print!(rt; "; colours{}", Left(Lent::whole(colours))),
+        Cells::Binary => Ok(()),
     }
 }
 
-fn write_given(rt: &impl Print, call: u64, picture: Picture, codes: &[u32]) -> io::Result<()> {
-    write_name(rt, call)?;
-    match call {
-        7 | 13 => {
-            write_text(rt, b" width")?;
-            write_number(rt, picture.width as u64)?;
-            write_text(rt, b" height")?;
-            write_number(rt, picture.height as u64)?;
-        }
-        _ => {}
+fn show_direction(rt: &impl Print, cells: Cells, name: &str, written: &Written) -> io::Result<()> {
+    print!(rt; "; {name}_counts{}", Left(Lent::whole(written.counts)))?;
+    print!(rt; "; {name}_sizes{}", Left(Lent::whole(written.sizes)))?;
+    match cells {
+        Cells::Coloured => print!(rt; "; {name}_colours{}", Left(Lent::whole(written.colours))),
+        Cells::Binary => Ok(()),
     }
-    write_text(rt, b" blank")?;
-    write_number(rt, widen(picture.blank))?;
-    write_list(rt, b" codes", codes)
 }
 
-fn show_line(
-    rt: &impl Print,
-    call: u64,
-    codes: &[u32],
-    blank: u32,
-    sizes: &mut [u32],
-    colours: &mut [u32],
-) -> io::Result<()> {
-    write_count(rt, calls::take_line(call, codes, blank, sizes, colours))?;
-    write_left(rt, b"; sizes", sizes)?;
-    if call == 6 {
-        write_left(rt, b"; colours", colours)?;
-    }
-    Ok(())
-}
-
-fn write_direction(
-    rt: &impl Print,
-    call: u64,
-    name: &[u8],
-    counts: &[u32],
-    sizes: &[u32],
-    colours: &[u32],
-) -> io::Result<()> {
-    write_text(rt, name)?;
-    write_left(rt, b"_counts", counts)?;
-    write_text(rt, name)?;
-    write_left(rt, b"_sizes", sizes)?;
-    if call == 7 {
-        write_text(rt, name)?;
-        write_left(rt, b"_colours", colours)?;
-    }
-    Ok(())
-}
-
-fn show_grid(
-    rt: &impl Print,
-    call: u64,
-    picture: Picture,
-    codes: &[u32],
-    row_counts: &mut [u32],
-    row_sizes: &mut [u32],
-    row_colours: &mut [u32],
-    column_counts: &mut [u32],
-    column_sizes: &mut [u32],
-    column_colours: &mut [u32],
-) -> io::Result<()> {
-    write_totals(
-        rt,
-        calls::take_clues(
-            call,
-            picture,
-            codes,
-            row_counts,
-            row_sizes,
-            row_colours,
-            column_counts,
-            column_sizes,
-            column_colours,
-        ),
-    )?;
-    write_direction(rt, call, b"; row", row_counts, row_sizes, row_colours)?;
-    write_direction(
-        rt,
-        call,
-        b"; column",
-        column_counts,
-        column_sizes,
-        column_colours,
-    )
-}
-
-// Lends as much room as the case says.
-fn lend_line(
-    rt: &impl Print,
-    call: u64,
-    codes: &[u32],
-    blank: u32,
-    rooms: &[u32],
-) -> io::Result<()> {
-    let mut sizes = lists::make_filled();
-    let mut colours = lists::make_filled();
-    let first = lists::within(room_at(rooms, 0), &sizes);
-    let second = lists::within(room_at(rooms, 1), &colours);
-    show_line(
-        rt,
-        call,
-        codes,
-        blank,
-        &mut sizes[..first],
-        &mut colours[..second],
-    )
-}
-
-fn lend_grid(
-    rt: &impl Print,
-    call: u64,
-    picture: Picture,
-    codes: &[u32],
-    rooms: &[u32],
-) -> io::Result<()> {
-    let mut row_counts = lists::make_filled();
-    let mut row_sizes = lists::make_filled();
-    let mut row_colours = lists::make_filled();
-    let mut column_counts = lists::make_filled();
-    let mut column_sizes = lists::make_filled();
-    let mut column_colours = lists::make_filled();
-    let a = lists::within(room_at(rooms, 0), &row_counts);
-    let b = lists::within(room_at(rooms, 1), &row_sizes);
-    let c = lists::within(room_at(rooms, 2), &row_colours);
-    let d = lists::within(room_at(rooms, 3), &column_counts);
-    let e = lists::within(room_at(rooms, 4), &column_sizes);
-    let f = lists::within(room_at(rooms, 5), &column_colours);
-    show_grid(
-        rt,
-        call,
-        picture,
-        codes,
-        &mut row_counts[..a],
-        &mut row_sizes[..b],
-        &mut row_colours[..c],
-        &mut column_counts[..d],
-        &mut column_sizes[..e],
-        &mut column_colours[..f],
-    )
-}
-
-fn show_case(
-    rt: &impl Print,
-    call: u64,
-    picture: Picture,
-    codes: &[u32],
-    rooms: &[u32],
-) -> io::Result<()> {
-    write_given(rt, call, picture, codes)?;
-    match call {
-        7 | 13 => lend_grid(rt, call, picture, codes, rooms)?,
-        _ => lend_line(rt, call, codes, picture.blank, rooms)?,
-    }
-    write_text(rt, b"\n")
+fn show_picture(rt: &impl Print, cells: Cells, picture: &Picture, rooms: &[u32]) -> io::Result<()> {
+    let mut row_counts: Codes = lists::make_filled(0);
+    let mut row_sizes: Codes = lists::make_filled(0);
+    let mut row_colours: Codes = lists::make_filled(0);
+    let mut column_counts: Codes = lists::make_filled(0);
+    let mut column_sizes: Codes = lists::make_filled(0);
+    let mut column_colours: Codes = lists::make_filled(0);
+    let mut rows = Written {
+        counts: lists::lend(&mut row_counts, room_at(rooms, 0)),
+        sizes: lists::lend(&mut row_sizes, room_at(rooms, 1)),
+        colours: lists::lend(&mut row_colours, room_at(rooms, 2)),
+    };
+    let mut columns = Written {
+        counts: lists::lend(&mut column_counts, room_at(rooms, 3)),
+        sizes: lists::lend(&mut column_sizes, room_at(rooms, 4)),
+        colours: lists::lend(&mut column_colours, room_at(rooms, 5)),
+    };
+    let answer = Answer::from(take_clues(cells, picture, &mut rows, &mut columns));
+    print!(rt; "{answer}")?;
+    show_direction(rt, cells, "row", &rows)?;
+    show_direction(rt, cells, "column", &columns)
 }
 
 pub(crate) fn show<R: Read>(
     rt: &impl Print,
-    call: u64,
-    input: &mut R,
-    buffer: &mut [u8],
-    reader: Reader,
-) -> io::Result<Reader> {
-    let mut codes = lists::make();
-    let mut rooms = lists::make();
-    let picture = lists::read_picture(input, buffer, reader, &mut codes)?;
-    let reader = picture.reader;
-    let listed = lists::read(input, buffer, reader, &mut rooms)?;
-    let first = picture.codes;
-    let second = listed.count;
-    show_case(rt, call, picture, &codes[..first], &rooms[..second])?;
-    Ok(listed.reader)
+    call: ClueCall,
+    reader: &mut Reader<R>,
+) -> io::Result<()> {
+    let mut codes: Codes = lists::make();
+    let mut rooms: Codes = lists::make();
+    let picture = reader.read_picture(&mut codes)?;
+    let rooms = reader.read_into(&mut rooms)?;
+    show_given(rt, call, &picture)?;
+    match call {
+        ClueCall::Line(cells) => show_line(rt, cells, &picture, rooms)?,
+        ClueCall::Picture(cells) => show_picture(rt, cells, &picture, rooms)?,
+    }
+    rt.println("")
 }

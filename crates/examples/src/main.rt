@@ -10,65 +10,42 @@ mod lines;
 mod pictures;
 mod runs;
 
+use cases::calls::Call;
 use std::io;
 use std::io::Read;
-use vectors::reader;
-use vectors::reader::{Reader, Word};
-use vectors::report::write_text;
+use vectors::reader::{ReadError, Reader};
 
-// Runs one case by the call's number.
-fn show_call<R: Read>(
-    rt: &impl Print,
-    call: u64,
-    input: &mut R,
-    buffer: &mut [u8],
-    reader: Reader,
-) -> io::Result<Reader> {
-    match call {
-        1..=5 | 8..=11 => blocks::show(rt, call, input, buffer, reader),
-        6 | 7 | 12 | 13 => clues::show(rt, call, input, buffer, reader),
-        14 | 15 => lines::show(rt, call, input, buffer, reader),
-        16..=19 => runs::show(rt, call, input, buffer, reader),
-        20 | 21 => pictures::show(rt, call, input, buffer, reader),
-        _ => Ok(reader::fail(reader)),
-    }
-}
-
-// The next case of the input; a fault ends the run, as the end does, and is told.
-fn show_next<R: Read>(
-    rt: &impl Print,
-    input: &mut R,
-    buffer: &mut [u8],
-    reader: Reader,
-) -> io::Result<Reader> {
-    let next = reader::read_word(input, buffer, reader)?;
-    let word = next.word;
-    let reader = next.reader;
-    match word {
-        Word::Number(call) => show_call(rt, call, input, buffer, reader),
-        Word::End => {
-            write_text(rt, b"the input was read to its end\n")?;
-            Ok(reader::fail(reader))
-        }
-        Word::Fault => {
-            write_text(rt, b"the input is broken\n")?;
-            Ok(reader)
+// Runs one case by the call's number. A number that no call has is a fault.
+fn show_call<R: Read>(rt: &impl Print, number: u64, reader: &mut Reader<R>) -> io::Result<()> {
+    match Call::try_from(number) {
+        Ok(Call::Blocks(call)) => blocks::show(rt, call, reader),
+        Ok(Call::Clues(call)) => clues::show(rt, call, reader),
+        Ok(Call::Line(call)) => lines::show(rt, call, reader),
+        Ok(Call::Run(call)) => runs::show(rt, call, reader),
+        Ok(Call::Picture(call)) => pictures::show(rt, call, reader),
+        Err(_) => {
+            reader.fail();
+            Ok(())
         }
     }
 }
 
-// The loop counts the cases, since nothing says that an input ends.
-fn show_all<R: Read>(rt: &impl Print, input: &mut R, buffer: &mut [u8]) -> io::Result<()> {
-    let mut reader = reader::open();
-    let mut left = u64::MAX;
-    while left > 0 && !reader.faulty {
-        left -= 1;
-        reader = show_next(rt, input, buffer, reader)?;
+// Shows all cases. The end of the input is told, and so is a number of a call that can't be read; a fault within a case ends the run as well.
+fn show_all<R: Read>(rt: &impl Print, reader: &mut Reader<R>) -> io::Result<()> {
+    for _ in 0..u64::MAX {
+        match reader.read_number() {
+            Ok(Some(number)) => show_call(rt, number, reader)?,
+            Ok(None) => return println!(rt; "the input was read to its end"),
+            Err(ReadError::Broken) => return println!(rt; "the input is broken"),
+            Err(ReadError::Input(error)) => return Err(error),
+        }
+        if reader.is_faulty() {
+            break;
+        }
     }
     Ok(())
 }
 
 fn main(rt: HostRuntime) -> io::Result<()> {
-    let mut buffer = [0; 65536];
-    show_all(&rt, &mut rt.reader(), &mut buffer)
+    show_all(&rt, &mut Reader::new(rt.reader()))
 }

@@ -1,231 +1,95 @@
 // Shows the runs. A case has the rooms of memo and stack, then a card: its point is 0, 0 in a full run, and binary blocks have no colours.
-use crate::answers::write_answer;
-use cases::runs::run;
-use cases::{Ends, Head, part};
+use cases::calls::Cells;
+use cases::cards::{Board, Card, Clues, Head, Room};
+use cases::runs::{RunCall, Workspace, run};
 use replies::runs::RunReply;
 use std::io;
 use std::io::Read;
-use vectors::reader::{Reader, demand};
-use vectors::report::{write_number, write_text};
-use vectors::show::{write_left, write_left_bytes, write_left_long, write_list};
-use vectors::{bytes, lists};
+use vectors::lists;
+use vectors::lists::{Bytes, Codes, Lent, Report};
+use vectors::reader::Reader;
+use vectors::show::{Left, LeftLong, Runs, Untouched};
 
-// How the memo is filled.
-const TURN: usize = 0;
-
-// The room of the memo and of the stack, as the case says.
-#[derive(Clone, Copy)]
-struct Rooms {
-    memo: usize,
-    stack: usize,
-    reader: Reader,
-}
-
-fn read_rooms<R: Read>(input: &mut R, buffer: &mut [u8], reader: Reader) -> io::Result<Rooms> {
-    let memo = demand(input, buffer, reader, u64::MAX)?;
-    let reader = memo.reader;
-    let stack = demand(input, buffer, reader, u64::MAX)?;
-    let reader = stack.reader;
-    Ok(Rooms {
-        memo: memo.value as usize,
-        stack: stack.value as usize,
-        reader,
-    })
-}
-
-fn write_name(rt: &impl Print, call: u64) -> io::Result<()> {
+fn show_head(rt: &impl Print, call: RunCall, head: Head) -> io::Result<()> {
+    print!(rt; "{call} width {} height {}", head.width, head.height)?;
     match call {
-        16 => write_text(rt, b"sp_run"),
-        17 => write_text(rt, b"sp_run_point"),
-        18 => write_text(rt, b"sp_run_binary"),
-        _ => write_text(rt, b"sp_run_binary_point"),
+        RunCall::Full(_) => Ok(()),
+        RunCall::Point(_) => print!(rt; " x {} y {}", head.x, head.y),
     }
 }
 
-fn write_named(rt: &impl Print, name: &[u8], number: usize) -> io::Result<()> {
-    write_text(rt, name)?;
-    write_number(rt, number as u64)
-}
-
-fn write_head(rt: &impl Print, call: u64, head: Head) -> io::Result<()> {
-    write_name(rt, call)?;
-    write_named(rt, b" width", head.width)?;
-    write_named(rt, b" height", head.height)?;
-    match call {
-        17 | 19 => {
-            write_named(rt, b" x", head.x)?;
-            write_named(rt, b" y", head.y)
-        }
-        _ => Ok(()),
+fn show_clues(rt: &impl Print, cells: Cells, name: &str, clues: &Clues) -> io::Result<()> {
+    print!(rt; " {name}_counts{}", Runs(clues.counts))?;
+    print!(rt; " {name}_sizes{}", Runs(clues.sizes))?;
+    match cells {
+        Cells::Coloured => print!(rt; " {name}_colours{}", Runs(clues.colours)),
+        Cells::Binary => Ok(()),
     }
 }
 
-fn write_rows(rt: &impl Print, call: u64, ends: Ends, clues: &[u32]) -> io::Result<()> {
-    write_list(rt, b" row_counts", part(clues, 0, ends.row_counts))?;
-    write_list(
-        rt,
-        b" row_sizes",
-        part(clues, ends.row_counts, ends.row_sizes),
-    )?;
-    if call < 18 {
-        write_list(
-            rt,
-            b" row_colours",
-            part(clues, ends.row_sizes, ends.row_colours),
-        )?;
-    }
-    Ok(())
+fn show_given(rt: &impl Print, call: RunCall, card: &Card, grid: &[u32]) -> io::Result<()> {
+    show_head(rt, call, card.head)?;
+    print!(rt; " grid{}", Runs(grid))?;
+    show_clues(rt, call.cells(), "row", &card.rows)?;
+    show_clues(rt, call.cells(), "column", &card.columns)?;
+    print!(rt; " report {}", card.head.room)
 }
 
-fn write_columns(rt: &impl Print, call: u64, ends: Ends, clues: &[u32]) -> io::Result<()> {
-    write_list(
-        rt,
-        b" column_counts",
-        part(clues, ends.row_colours, ends.column_counts),
-    )?;
-    write_list(
-        rt,
-        b" column_sizes",
-        part(clues, ends.column_counts, ends.column_sizes),
-    )?;
-    if call < 18 {
-        write_list(
-            rt,
-            b" column_colours",
-            part(clues, ends.column_sizes, ends.column_colours),
-        )?;
-    }
-    Ok(())
-}
-
-fn write_given(
-    rt: &impl Print,
-    call: u64,
-    head: Head,
-    ends: Ends,
-    rooms: Rooms,
-    grid: &[u32],
-    clues: &[u32],
-) -> io::Result<()> {
-    write_head(rt, call, head)?;
-    write_list(rt, b" grid", grid)?;
-    write_rows(rt, call, ends, clues)?;
-    write_columns(rt, call, ends, clues)?;
-    write_named(rt, b" report", head.room)?;
-    write_named(rt, b" memo", rooms.memo)?;
-    write_named(rt, b" stack", rooms.stack)
-}
-
-// With 8, the line that refused.
-fn write_line(rt: &impl Print, reply: RunReply) -> io::Result<()> {
-    let kind = reply.line_kind;
-    match kind {
-        0 => write_named(rt, b" at row", reply.line_index),
-        1 => write_named(rt, b" at column", reply.line_index),
-        _ => Ok(()),
-    }
-}
-
-// Report entries and lines solved.
-fn write_counts(rt: &impl Print, reply: RunReply) -> io::Result<()> {
-    write_named(rt, b",", reply.entries)?;
-    write_number(rt, reply.lines as u64)
-}
-
-// What a run answers and leaves: of memo and stack only a refusal by checking says what that is, and it has no counts.
-fn write_rest(
-    rt: &impl Print,
-    reply: RunReply,
-    grid: &[u32],
-    report: &[u32],
-    memo: &[u8],
-    stack: &[u32],
-) -> io::Result<()> {
-    let number = reply.number;
-    write_answer(rt, number)?;
-    write_line(rt, reply)?;
-    match number {
-        0 | 8 => write_counts(rt, reply)?,
+// The number; with 8 the line that refused; and without a refusal by checking the report entries and the lines solved.
+fn show_answer(rt: &impl Print, reply: RunReply) -> io::Result<()> {
+    print!(rt; " -> {}", reply.number)?;
+    match reply.line_kind {
+        0 => print!(rt; " at row {}", reply.line_index)?,
+        1 => print!(rt; " at column {}", reply.line_index)?,
         _ => {}
     }
-    write_list(rt, b"; grid", grid)?;
-    write_left_long(rt, b"; report", report)?;
-    match number {
-        0 | 8 => {}
-        _ => {
-            write_left_bytes(rt, b"; memo", TURN, memo)?;
-            write_left(rt, b"; stack", stack)?;
-        }
+    match reply.number {
+        0 | 8 => print!(rt; ", {} {}", reply.entries, reply.lines),
+        _ => Ok(()),
     }
-    write_text(rt, b"\n")
 }
 
-fn show_run(
-    rt: &impl Print,
-    call: u64,
-    head: Head,
-    ends: Ends,
-    grid: &mut [u32],
-    clues: &[u32],
-    report: &mut [u32],
-    memo: &mut [u8],
-    stack: &mut [u32],
-) -> io::Result<()> {
-    let reply = run(call, head, ends, grid, clues, report, memo, stack);
-    write_rest(rt, reply, grid, report, memo, stack)
+// What a run leaves: of memo and stack only a refusal by checking says what that is.
+fn show_left(rt: &impl Print, number: u32, grid: &[u32], space: &Workspace) -> io::Result<()> {
+    print!(rt;
+        "; grid{}; report{}",
+        Runs(grid),
+        LeftLong(Lent::whole(space.report))
+    )?;
+    match number {
+        0 | 8 => Ok(()),
+        _ => {
+            print!(rt; "; memo{}", Untouched(Lent::whole(space.memo)))?;
+            print!(rt; "; stack{}", Left(Lent::whole(space.stack)))
+        }
+    }
 }
 
 // Lends as much room as the case says.
-fn show_case(
-    rt: &impl Print,
-    call: u64,
-    head: Head,
-    ends: Ends,
-    rooms: Rooms,
-    grid: &mut [u32],
-    clues: &[u32],
-) -> io::Result<()> {
-    write_given(rt, call, head, ends, rooms, grid, clues)?;
-    let mut report = lists::make_filled_long();
-    let mut memo = bytes::make_filled(TURN);
-    let mut stack = lists::make_filled();
-    let first = lists::within(head.room, &report);
-    let second = bytes::within(rooms.memo, &memo);
-    let third = lists::within(rooms.stack, &stack);
-    show_run(
-        rt,
-        call,
-        head,
-        ends,
-        grid,
-        clues,
-        &mut report[..first],
-        &mut memo[..second],
-        &mut stack[..third],
-    )
-}
-
 pub(crate) fn show<R: Read>(
     rt: &impl Print,
-    call: u64,
-    input: &mut R,
-    buffer: &mut [u8],
-    reader: Reader,
-) -> io::Result<Reader> {
-    let mut grid = lists::make();
-    let mut list = cases::make();
-    let rooms = read_rooms(input, buffer, reader)?;
-    let board = cases::read_board(input, buffer, rooms.reader, &mut grid)?;
-    let clues = cases::read_clues(input, buffer, board.reader, &mut list)?;
-    let cells = board.cells;
-    show_case(
-        rt,
-        call,
-        board.head,
-        clues.ends,
-        rooms,
-        &mut grid[..cells],
-        &list,
-    )?;
-    Ok(clues.reader)
+    call: RunCall,
+    reader: &mut Reader<R>,
+) -> io::Result<()> {
+    let mut grid: Codes = lists::make();
+    let mut room: Room = lists::make();
+    let memo_room = reader.demand_size()?;
+    let stack_room = reader.demand_size()?;
+    let board = Board::read(reader, &mut grid)?;
+    let card = Card::read(reader, board.head, &mut room)?;
+    let grid = &mut grid[..board.cells];
+    show_given(rt, call, &card, grid)?;
+    print!(rt; " memo {memo_room} stack {stack_room}")?;
+    let mut report: Report = lists::make_filled(0);
+    let mut memo: Bytes = lists::make_filled(0);
+    let mut stack: Codes = lists::make_filled(0);
+    let mut space = Workspace {
+        report: lists::lend(&mut report, card.head.room),
+        memo: lists::lend(&mut memo, memo_room),
+        stack: lists::lend(&mut stack, stack_room),
+    };
+    let reply = run(call, &card, grid, &mut space);
+    show_answer(rt, reply)?;
+    show_left(rt, reply.number, grid, &space)?;
+    rt.println("")
 }

@@ -1,4 +1,3 @@
-pub mod Ints
 pub mod Added
 pub mod Fillings
 pub mod Pieces

@@ -1,16 +1,14 @@
 -- The two pieces that a filling can end in, as the code finds them: a blank, and a block with its gap.
-use mathlib.Core.Path.{◌≡◌, sym, ◌∙◌}
+use mathlib.Core.Path.{◌≡◌, ◌∙◌}
 use mathlib.Core.Bool.{Bool, true, false, cond}
 use Prim.Native.Nat.{ℕ, ◌+◌, ◌-◌, ◌≤◌, ◌<◌}
 use native.Mathlib.Omega.{arith}
 use borrow.Author.Tests.{lt-ltb, le-ltb}
 use lib.Dec.{T}
-use lib.IntN.{ℤ, pos, sub_ℕ}
 use Rattle.rules.specs.Colour.{can_take}
 use Rattle.rules.proofs.Tests.{below?}
 use Rattle.filling.specs.Filling.{Line, trails, gap_after, AgreesTo}
-use Rattle.filling.specs.Steps.{shade, stop_of, CanShow, Lies, LegalLine, EndsBlank, EndsBlock}
-use Rattle.filling.proofs.Ints.{sub_is, is_sub}
+use Rattle.filling.specs.Steps.{shade, stop_of, CanShow, LegalLine, EndsBlank, EndsBlock}
 use Rattle.filling.proofs.Fillings.{Piece}
 
 pub blank_piece : (L : Line) (at b : ℕ) → T (can_take (L.cell at) 1) → Piece L (EndsBlank L at b) at b (at + 1) (λ i. 1)
@@ -24,16 +22,15 @@ stop_is : (t : Bool) (at x : ℕ) → x + cond t 1 0 ≡ at + 1 → stop_of at t
 stop_is true at x e = omega arith
 stop_is false at x e = omega arith
 
--- what the code knows of the last block where it has found its start
-pub record Found (L : Line) (at b : ℕ) (t : Bool) (room : ℕ) (z : ℤ) : Type 0 where
+-- what the code knows of the last block
+pub record Found (L : Line) (at b : ℕ) (t : Bool) (room : ℕ) : Type 0 where
   pub legal : LegalLine L
   pub some : 1 ≤ b
   pub within : b ≤ L.count
   pub trail : t ≡ trails L (b - 1)
   pub room_is : room ≡ L.size (b - 1) + cond t 1 0
-  pub start_is : z ≡ sub_ℕ (at + 1) room
 
-module _ {L : Line} {at b : ℕ} {t : Bool} {room : ℕ} {z : ℤ} (F : Found L at b t room z) where
+module _ {L : Line} {at b : ℕ} {t : Bool} {room : ℕ} (F : Found L at b t room) where
   abbrev colour : ℕ
   colour = L.colour (b - 1)
 
@@ -60,30 +57,27 @@ module _ {L : Line} {at b : ℕ} {t : Bool} {room : ℕ} {z : ℤ} (F : Found L 
       (λ l. rw (lt-ltb i (E.start + size) l) (E.block.inside i u (omega arith) ∙ rw e))
       (λ l. rw (le-ltb i (E.start + size) l) (E.block.after i (omega arith) v)))
 
-  -- where the block cannot lie no filling ends in it
-  pub no_block : (Lies L z at colour t → ⊥) → (f : ℕ → ℕ) → EndsBlock L at b f → ⊥
-  unfolding CanShow AgreesTo
-  no_block n f E = n (record {
-    at = E.start;
-    is = F.start_is ∙ sub_is (at + 1) room E.start (where_is E);
-    show = λ i u v. rw (what_is E i u v) at (E.agrees i v);
-  })
+  -- where there are too few cells for the block no filling ends in it
+  pub no_room : at + 1 < room → (f : ℕ → ℕ) → EndsBlock L at b f → ⊥
+  no_room h f E = omega (arith, where_is E)
 
-  module _ (s : ℕ) (zs : z ≡ pos s) where
-    fills : s + room ≡ at + 1
-    fills = is_sub (at + 1) room s (sym F.start_is ∙ zs)
-
+  module _ (s : ℕ) (fills : s + room ≡ at + 1) where
     pub starts : s ≤ at
-    starts = omega (arith, fills, F.legal.sized (b - 1) (omega arith))
+    starts = omega (arith, F.legal.sized (b - 1) (omega arith))
+
+    -- nor where the block cannot lie
+    pub no_block : (CanShow L s (at + 1) (shade (stop_of at t) colour) → ⊥) → (f : ℕ → ℕ) → EndsBlock L at b f → ⊥
+    unfolding CanShow AgreesTo
+    no_block n f E = n (λ i u v. rw (what_is E i (omega (arith, where_is E)) v) at (E.agrees i v))
 
     pub block_piece : CanShow L s (at + 1) (shade (stop_of at t) colour) → Piece L (EndsBlock L at b) s (b - 1) (at + 1) (shade (stop_of at t) colour)
     unfolding CanShow AgreesTo
     block_piece h = record {
       fits = λ f E.
           let e : E.prior ≡ b - 1 = omega (arith, E.is) in
-          let d : E.start ≡ s = omega (arith, where_is E, fills) in
+          let d : E.start ≡ s = omega (arith, where_is E) in
           record { shows = rw (d, e) at E.before; agrees = λ i l. E.agrees i (omega (arith, starts)) };
-      shows = λ f E i u v. what_is E i (omega (arith, where_is E, fills)) v;
+      shows = λ f E i u v. what_is E i (omega (arith, where_is E)) v;
       made = λ f W w. record {
         start = s;
         prior = b - 1;
@@ -91,8 +85,8 @@ module _ {L : Line} {at b : ℕ} {t : Bool} {room : ℕ} {z : ℤ} (F : Found L 
         before = W.shows;
         block = record {
           within = omega arith;
-          ends = let g : gap_after L (b - 1) ≡ cond t 1 0 = rw F.trail in omega (arith, fills);
-          inside = λ i u v. w i u (omega (arith, fills)) ∙ rw (stop s fills, lt-ltb i (s + size) v);
+          ends = let g : gap_after L (b - 1) ≡ cond t 1 0 = rw F.trail in omega arith;
+          inside = λ i u v. w i u (omega arith) ∙ rw (stop s fills, lt-ltb i (s + size) v);
           after = λ i u v. w i (omega arith) v ∙ rw (stop s fills, le-ltb i (s + size) u);
         };
         agrees = λ i v. below? i s (λ u. W.agrees i u) (λ u. rw (w i u v) (h i u v));

@@ -1,7 +1,8 @@
 -- The line as the solver holds it, and its fillings: the placements in a form that grows from left to right, a cell or a block at a time.
 -- `Bridge` in proofs/ carries it to the paper's placements; no public call speaks of it.
-use Rattle.std.specs.Prelude.{◌≡◌, Bool, cond, List, ℕ, zero, suc, ◌+◌, ◌<◌, ◌≤◌, T, eqb, get_or}
+use Rattle.std.specs.Prelude.{◌≡◌, Bool, cond, ℕ, zero, suc, ◌+◌, ◌<◌, ◌≤◌, T, eqb, get_or}
 use Rattle.rules.specs.Colour.{can_take}
+use Rattle.filling.specs.declared.HeldLine.{HeldLine}
 
 -- a line: how many cells and blocks it has, its cells' colour sets, its blocks' sizes and colours, and the sums for the early refusal
 pub record Line : Type 0 where
@@ -12,15 +13,15 @@ pub record Line : Type 0 where
   pub colour : ℕ → ℕ
   pub sum : ℕ → ℕ
 
--- the line that an array of 260 numbers holds
-abbrev pub held : List ℕ → Line
-held xs = record {
-  length = get_or xs 258 0;
-  count = get_or xs 259 0;
-  cell = λ i. get_or xs i 0;
-  size = λ b. get_or xs (64 + b) 0;
-  colour = λ b. get_or xs (128 + b) 0;
-  sum = λ b. get_or xs (193 + b) 0;
+-- the line that the solver's struct holds
+abbrev pub held : HeldLine → Line
+held h = record {
+  length = h.length;
+  count = h.count;
+  cell = λ i. get_or h.cells i 0;
+  size = λ b. get_or h.sizes b 0;
+  colour = λ b. get_or h.colours b 0;
+  sum = λ b. get_or h.sums b 0;
 }
 
 -- the block after block b has its colour

@@ -1,5 +1,5 @@
 -- What the functions of the cycle ask and tell.
-use Rattle.std.specs.Prelude.{◌≡◌, Bool, true, false, cond, List, ℕ, suc, ◌+◌, ◌*◌, ◌-◌, ◌≤◌, ◌<◌, T, ltb, eqb, ℤ, pos, negsuc, length, get_or}
+use Rattle.std.specs.Prelude.{◌≡◌, Bool, true, false, cond, List, ℕ, ◌+◌, ◌*◌, ◌-◌, ◌≤◌, ◌<◌, T, ltb, eqb, length, get_or}
 use Rattle.std.specs.Int.Bits.{bit_or}
 use Rattle.rules.specs.Colour.{Has, Subset, can_take}
 use Rattle.rules.specs.Refusal.{memo_size}
@@ -9,11 +9,6 @@ use Rattle.filling.specs.Filling.{Line, Shows, BlockAt, AgreesTo, Fits, Solution
 pub record Decides (P : Type 0) (r : Bool) : Type 0 where
   pub yes : r ≡ true → P
   pub no : r ≡ false → P → ⊥
-
--- how many cells end at a position, which is position plus one: none at -1, the left edge
-abbrev pub cells_to : ℤ → ℕ
-cells_to (pos n) = suc n
-cells_to (negsuc n) = 0
 
 -- ---- where a block can lie
 
@@ -28,12 +23,6 @@ CanShow L a e h = (i : ℕ) → a ≤ i → i < e → T (can_take (L.cell i) (h 
 -- where the block's own cells end, in what ends at `position`
 abbrev pub stop_of : ℕ → Bool → ℕ
 stop_of position trailing = cond trailing position (position + 1)
-
--- a block that starts at `start` can lie there: the start is not below zero, and the cells can show it
-pub record Lies (L : Line) (start : ℤ) (position colour : ℕ) (trailing : Bool) : Type 0 where
-  pub at : ℕ
-  pub is : start ≡ pos at
-  pub show : CanShow L at (position + 1) (shade (stop_of position trailing) colour)
 
 -- ---- what is added to the answer
 

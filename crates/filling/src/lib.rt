@@ -1,23 +1,40 @@
 // The dynamic solver: whether the first blocks fit into the first cells, and what they can give each cell, from right to left.
-// The line is held in one array, so that few arguments go through the cycle: see `held` in specs/Filling.antt.
+// The line is held in one struct, so that few arguments go through the cycle: see `held` in specs/Filling.antt. Memo and answer stay
+// arguments beside it: in a struct of the three each read would load an address first that is in a register now (docs/DECISIONS.md, 24).
 #![tactic(auto)]
 
-ghost use Rattle.std.specs.Prelude.{◌≡◌, cond, ℕ, ◌+◌, ◌*◌, ◌-◌, ◌^◌, ◌≤◌, ◌<◌, eqb, pos, length};
-ghost use Rattle.std.proofs.Math.IntN.{sub_ℕ};
+ghost use Rattle.std.specs.Prelude.{◌≡◌, cond, ℕ, ◌+◌, ◌*◌, ◌-◌, ◌^◌, ◌≤◌, ◌<◌, ◌≢◌, eqb, IfSome, IfNone, replicate};
 ghost use Rattle.rules.specs.Colour.{can_take};
 ghost use Rattle.filling.specs.Filling.{held, trails, Fits};
-ghost use Rattle.filling.specs.Steps.{Decides, cells_to, CanShow, Lies, Added, shade, stop_of, Ask, Tell, EndsBlank, EndsBlock};
+ghost use Rattle.filling.specs.Steps.{Decides, CanShow, Added, shade, stop_of, Ask, Tell, EndsBlank, EndsBlock};
 
-// Where the blocks' sizes and colours and their sums stand in the line's array. Its cells come first; its length and its number of blocks, last.
-pub const SIZES: usize = 64;
+// A line as the solver holds it: its cells' colour sets, its blocks' sizes and colours, the sums for the early refusal, and how many
+// cells and blocks there are. The arrays have room for the longest line; after the last block's colour stands 0, which no block has.
+#[derive(Drop)]
+pub struct HeldLine {
+    pub cells: [u32; 64],
+    pub sizes: [u32; 64],
+    pub colours: [u32; 65],
+    pub sums: [u32; 65],
+    pub length: usize,
+    pub count: usize,
+}
 
-pub const COLOURS: usize = 128;
-
-pub const SUMS: usize = 193;
-
-pub const LENGTH: usize = 258;
-
-pub const COUNT: usize = 259;
+impl HeldLine {
+    // A line of no cells and no blocks: all is 0.
+    pub fn new() -> Self
+        ensures { result.cells ≡ replicate 64 0 }
+    {
+        HeldLine {
+            cells: [0; 64],
+            sizes: [0; 64],
+            colours: [0; 65],
+            sums: [0; 65],
+            length: 0,
+            count: 0,
+        }
+    }
+}
 
 // Whether the cell can take the colour: the two share a bit.
 fn can_be(cell: u32, colour: u32) -> bool
@@ -27,106 +44,83 @@ fn can_be(cell: u32, colour: u32) -> bool
 }
 
 // Whether a blank has to follow the block: the next one has its colour. After the last block stands the colour 0.
-pub fn trail_with_space(line: &[u32; 260], block: usize) -> bool
+pub fn trail_with_space(line: &HeldLine, block: usize) -> bool
     requires { block < 64 }
     ensures { result ≡ trails (held line.now) block }
 {
-    line[COLOURS + (block + 1)] == line[COLOURS + block]
+    line.colours[block + 1] == line.colours[block]
 }
 
+// The number as the machine counts memory. There is no `From` between the two, and callers are told the bound.
 pub fn wide(x: u32) -> usize
     ensures { (result ≡ x) × (result < 2 ^ 32) }
 {
     x as usize
 }
 
-// The cells that a block takes: its own, and the blank that has to follow.
+// The cells that a block takes: its own, and the blank that has to follow, if there is one (`trailing`, as the crate calls the flag).
 pub fn room_of(size: u32, trailing: bool) -> usize
     ensures { (result ≡ size + cond trailing 1 0) × (result ≤ 2 ^ 32) }
 {
-    if trailing {
-        size as usize + 1
-    } else {
-        size as usize
-    }
+    wide(size) + usize::from(trailing)
 }
 
-// The first cell of a block of `size` cells that ends at `position`: below zero where it does not fit.
-fn block_start(position: usize, size: usize) -> i64
-    requires { (position ≤ 64) × (size ≤ 2 ^ 32) }
-    ensures { result ≡ sub_ℕ (position + 1) size }
+// The first cell of a block that takes `room` cells up to the position, where there are so many.
+fn block_start(position: usize, room: usize) -> Option<usize>
+    requires { position < 64 }
+    ensures fits { IfSome result (λ start. start + room ≡ position + 1) }
+    ensures over { IfNone result (position + 1 < room) }
 {
-    position as i64 - size as i64 + 1
-}
-
-// The position before `start`: -1 is the left edge.
-fn left_of(start: usize) -> i64
-    requires { start ≤ 64 }
-    ensures { cells_to result ≡ start }
-{
-    start as i64 - 1
+    (position + 1).checked_sub(room)
 }
 
 // Whether each cell from `start` up to `end` can take the colour.
-fn all_can_be(line: &[u32; 260], start: usize, end: usize, colour: u32) -> bool
+fn all_can_be(line: &HeldLine, start: usize, end: usize, colour: u32) -> bool
     requires { end ≤ 64 }
     ensures { Decides (CanShow (held line.now) start end (λ i. colour)) result }
 {
-    let mut i = start;
-    while i < end {
-        if !can_be(line[i], colour) {
-            return false;
-        }
-        i += 1;
-    }
-    true
+    (start..end).all(|i| can_be(line.cells[i], colour))
 }
 
+// Whether the block's cells, up to the position, can take its colour, and the last of them a blank where one has to follow.
 fn can_place_color(
-    line: &[u32; 260],
-    start: i64,
+    line: &HeldLine,
+    start: usize,
     position: usize,
     colour: u32,
     trailing: bool,
 ) -> bool
-    requires { (position < 64) × ((s : ℕ) → start ≡ pos s → s ≤ position) }
-    ensures { Decides (Lies (held line.now) start position colour trailing) result }
+    requires { (start ≤ position) × (position < 64) }
+    ensures { Decides (CanShow (held line.now) start (position + 1) (shade (stop_of position trailing) colour)) result }
 {
-    if start < 0 {
-        return false;
-    }
-    let first = start as usize;
     if trailing {
-        if !can_be(line[position], 1) {
-            return false;
-        }
-        all_can_be(line, first, position, colour)
+        can_be(line.cells[position], 1) && all_can_be(line, start, position, colour)
     } else {
-        all_can_be(line, first, position + 1, colour)
+        all_can_be(line, start, position + 1, colour)
     }
 }
 
 // Adds the colour to the cell's answer.
 fn update_solved(out: &mut [u32; 64], position: usize, colour: u32)
-    requires { (position < 64) × (64 ≤ length out.old) }
+    requires { position < 64 }
     ensures { Added out.old out.new position (position + 1) (λ i. colour) }
 {
-    out[position] = out[position] | colour;
+    out[position] |= colour;
 }
 
+// Adds the colour to the answer of each cell from `start` up to `end`.
 fn add_all(out: &mut [u32; 64], start: usize, end: usize, colour: u32)
-    requires { (start ≤ end) × (end ≤ 64) × (64 ≤ length out.old) }
+    requires { (start ≤ end) × (end ≤ 64) }
     ensures { Added out.old out.new start end (λ i. colour) }
 {
-    let mut i = start;
-    while i < end {
-        update_solved(out, i, colour);
-        i += 1;
+    for cell in out[start..end].iter_mut() {
+        *cell |= colour;
     }
 }
 
+// Adds what the block gives each cell up to the position: its colour, and a blank to the last of them where one has to follow.
 fn set_color_block(out: &mut [u32; 64], start: usize, position: usize, colour: u32, trailing: bool)
-    requires { (start ≤ position) × (position < 64) × (64 ≤ length out.old) }
+    requires { (start ≤ position) × (position < 64) }
     ensures { Added out.old out.new start (position + 1) (shade (stop_of position trailing) colour) }
 {
     if trailing {
@@ -137,45 +131,55 @@ fn set_color_block(out: &mut [u32; 64], start: usize, position: usize, colour: u
     }
 }
 
-// What the memo holds of an answer: 2 for yes, 1 for no. 0 is not known yet.
+// What the memo holds of an answer: 2 for yes, 1 for no. 0 is not known yet. The memo is lent for bytes (`sp_solve_line`).
 fn mark(solvable: bool) -> u8
     ensures { eqb result 2 ≡ solvable }
 {
     if solvable { 2 } else { 1 }
 }
 
-// Whether the first blocks fit into the cells up to the position; what they give each cell is added to `out`.
-#[cycle(fill_matrix_fill_matrix_blank_fill_matrix_color_solve_block)]
+// The answer that a byte of the memo holds, if it is known.
+fn recall(byte: u8) -> Option<bool>
+    ensures known { IfSome result (λ yes. (byte ≢ 0) × (eqb byte 2 ≡ yes)) }
+    ensures open { IfNone result (byte ≡ 0) }
+{
+    match byte {
+        0 => None,
+        known => Some(known == 2),
+    }
+}
+
+// Whether the first blocks fit into the first cells; what they give each cell is added to `out`.
+#[cycle(fillings)]
 fn solve_block(
-    position: i64,
+    cells: usize,
     block: usize,
-    line: &[u32; 260],
+    line: &HeldLine,
     memo: &mut [u8],
     out: &mut [u32; 64],
 ) -> bool
-    requires { Ask (held line.now) (cells_to position) block memo.old out.old }
-    ensures { Tell (held line.now) (Fits (held line.now) (cells_to position) block) (cells_to position) result out.old memo.new out.new }
+    requires { Ask (held line.now) cells block memo.old out.old }
+    ensures { Tell (held line.now) (Fits (held line.now) cells block) cells result out.old memo.new out.new }
 {
-    if position < 0 {
+    if cells == 0 {
         return block == 0;
     }
-    let at = position as usize;
-    let entry = block * 64 + at;
-    let known = memo[entry];
-    if known != 0 {
-        return known == 2;
+    let position = cells - 1;
+    let entry = block * 64 + position;
+    if let Some(known) = recall(memo[entry]) {
+        return known;
     }
-    let solvable = fill_matrix(at, block, line, memo, out);
+    let solvable = fill_matrix(position, block, line, memo, out);
     memo[entry] = mark(solvable);
     solvable
 }
 
-// The same where the memo does not know it yet.
-#[cycle(fill_matrix_fill_matrix_blank_fill_matrix_color_solve_block)]
+// The same for the cells up to the position, where the memo does not know it yet.
+#[cycle(fillings)]
 pub fn fill_matrix(
     position: usize,
     block: usize,
-    line: &[u32; 260],
+    line: &HeldLine,
     memo: &mut [u8],
     out: &mut [u32; 64],
 ) -> bool
@@ -183,7 +187,7 @@ pub fn fill_matrix(
     ensures { Tell (held line.now) (Fits (held line.now) (position + 1) block) (position + 1) result out.old memo.new out.new }
 {
     // too many blocks left to fit this line segment
-    if position < wide(line[SUMS + block]) {
+    if position < wide(line.sums[block]) {
         return false;
     }
     // both are always tried
@@ -193,21 +197,21 @@ pub fn fill_matrix(
 }
 
 // The same with a blank at the position.
-#[cycle(fill_matrix_fill_matrix_blank_fill_matrix_color_solve_block)]
+#[cycle(fillings)]
 fn fill_matrix_blank(
     position: usize,
     block: usize,
-    line: &[u32; 260],
+    line: &HeldLine,
     memo: &mut [u8],
     out: &mut [u32; 64],
 ) -> bool
     requires { Ask (held line.now) (position + 1) block memo.old out.old }
     ensures { Tell (held line.now) (EndsBlank (held line.now) position block) (position + 1) result out.old memo.new out.new }
 {
-    if !can_be(line[position], 1) {
+    if !can_be(line.cells[position], 1) {
         return false;
     }
-    if !solve_block(left_of(position), block, line, memo, out) {
+    if !solve_block(position, block, line, memo, out) {
         return false;
     }
     update_solved(out, position, 1);
@@ -215,11 +219,11 @@ fn fill_matrix_blank(
 }
 
 // The same with the last block, or the blank that has to follow it, at the position.
-#[cycle(fill_matrix_fill_matrix_blank_fill_matrix_color_solve_block)]
+#[cycle(fillings)]
 fn fill_matrix_color(
     position: usize,
     block: usize,
-    line: &[u32; 260],
+    line: &HeldLine,
     memo: &mut [u8],
     out: &mut [u32; 64],
 ) -> bool
@@ -230,16 +234,18 @@ fn fill_matrix_color(
         return false;
     }
     let last = block - 1;
-    let colour = line[COLOURS + last];
+    let colour = line.colours[last];
     let trailing = trail_with_space(line, last);
-    let start = block_start(position, room_of(line[SIZES + last], trailing));
+    let room = room_of(line.sizes[last], trailing);
+    let Some(start) = block_start(position, room) else {
+        return false;
+    };
     if !can_place_color(line, start, position, colour, trailing) {
         return false;
     }
-    let first = start as usize;
-    if !solve_block(left_of(first), last, line, memo, out) {
+    if !solve_block(start, last, line, memo, out) {
         return false;
     }
-    set_color_block(out, first, position, colour, trailing);
+    set_color_block(out, start, position, colour, trailing);
     true
 }

@@ -11,8 +11,7 @@ pub fn row(grid: &[u32], width: usize, y: RowIndex) -> &[u32]
     requires { y.0 * width + width ≤ length grid.now }
     ensures { result.now ≡ take width (drop (y.0 * width) grid.now) }
 {
-    let at = y.0;
-    let from = at * width;
+    let from = y.0 * width;
     &grid[from..from + width]
 }
 
@@ -21,10 +20,7 @@ pub fn copy_column(grid: &[u32], width: usize, height: usize, x: ColumnIndex, li
     requires { Grid width height grid.now × (x.0 < width) × (height ≤ length line.old) }
     ensures { Put line.old 0 (line_of width height grid.now (column x.0)) height line.new }
 {
-    let at = x.0;
-    let mut y = 0;
-    while y < height {
-        line[y] = grid[y * width + at];
-        y += 1;
+    for (y, cell) in line[..height].iter_mut().enumerate() {
+        *cell = grid[y * width + x.0];
     }
 }

@@ -1,8 +1,9 @@
-// Stores a line's answer in the grid, and reports what changed.
+// Stores a line's answer in the grid, and reports what changed. Width and height stay two numbers, as the words of the contracts take them.
 ghost use Rattle.std.specs.Prelude.{◌≡◌, ◌≤◌, ◌<◌};
 ghost use Rattle.rules.specs.Board.{On, place};
 ghost use Rattle.grid.specs.Grid.{Storable, Stored};
 
+use crate::report::Report;
 use rules::LinePosition;
 
 // The number of the cell at index j of a line.
@@ -16,30 +17,23 @@ fn cell_of(width: usize, line: LinePosition, j: usize) -> usize
     }
 }
 
-// Stores the answer; the changed cells' numbers go to the report, from index `at` on. Returns the index after them.
+// Stores the answer; the changed cells' numbers go to the report.
 pub fn store_line(
     width: usize,
     height: usize,
     line: LinePosition,
     answer: &[u32],
     grid: &mut [u32],
-    report: &mut [u32],
-    at: usize,
-) -> usize
-    requires { Storable width height line answer.now grid.old report.old at }
-    ensures { Stored width height line answer.now grid.old report.old at result grid.new report.new }
+    report: &mut Report,
+)
+    requires { Storable width height line answer.now grid.old report.old }
+    ensures { Stored width height line answer.now grid.old report.old grid.new report.new }
 {
-    let mut entries = at;
-    let mut j = 0;
-    while j < answer.len() {
+    for (j, &colours) in answer.iter().enumerate() {
         let cell = cell_of(width, line, j);
-        let colours = answer[j];
         if grid[cell] != colours {
             grid[cell] = colours;
-            report[entries] = cell as u32;
-            entries += 1;
+            report.push(cell as u32);
         }
-        j += 1;
     }
-    entries
 }

@@ -1,4 +1,6 @@
 -- Demand 2 of the calls' own answers: 8 exactly if no placement agrees; else each cell holds exactly the colours that agreeing placements give it.
+use Rattle.std.specs.Prelude.{Err, Ok}
+use Rattle.rules.specs.Refusal.{verdict, Verdict}
 use mathlib.Core.Path.{◌≡◌, refl, sym, ap, subst, ◌∙◌}
 use mathlib.Core.Logic.{◌↔◌}
 use mathlib.Core.List.{List, map}
@@ -10,9 +12,6 @@ use Rattle.rules.specs.Block.{Lent, black}
 use Rattle.rules.specs.Placement.{Placement}
 use Rattle.rules.specs.Answer.{Fitting, Differing, Refused, Exact, Answers, Proper}
 use Rattle.rules.specs.Binary.{set_by, cell_of, line_answer, read_back_of}
-use Rattle.rules.specs.Refusal.{verdict}
-use Rattle.rules.specs.declared.Verdict.{Verdict}
-use Rattle.rules.specs.declared.Verdict.TheVariants.{Fine, Bad}
 use Rattle.rules.proofs.Placements.{placement_proper}
 use Rattle.rules.proofs.Answers.{narrows}
 use Rattle.rules.proofs.Binaries.{line_right, line_only, sets_small, binary_white, binary_black, binary_open}
@@ -24,14 +23,14 @@ use Rattle.line.proofs.Told.{binary_ready, binary_small}
 
 -- what the numbers 8 and 0 say of rules and answer
 told_eight : (v : Verdict) (a : Option (List ℕ)) → 8 ≡ number_of v a → a ≡ none
-told_eight (Bad w) a e = absurd ((by_checking w).1 (sym e))
-told_eight Fine none e = refl
-told_eight Fine (some m) e = absurd (omega arith)
+told_eight (Err w) a e = absurd ((by_checking w).1 (sym e))
+told_eight (Ok _) none e = refl
+told_eight (Ok _) (some m) e = absurd (omega arith)
 
-told_zero : (v : Verdict) (a : Option (List ℕ)) (out : List ℕ) → 0 ≡ number_of v a → (v ≡ Fine) × (a ≡ some (output v a out))
-told_zero (Bad w) a out e = absurd ((by_checking w).0 (sym e))
-told_zero Fine none out e = absurd (omega arith)
-told_zero Fine (some m) out e = (refl, refl)
+told_zero : (v : Verdict) (a : Option (List ℕ)) (out : List ℕ) → 0 ≡ number_of v a → (v ≡ Ok tt) × (a ≡ some (output v a out))
+told_zero (Err w) a out e = absurd ((by_checking w).0 (sym e))
+told_zero (Ok _) none out e = absurd (omega arith)
+told_zero (Ok _) (some m) out e = (refl, refl)
 
 -- ---- a coloured line
 
@@ -42,7 +41,7 @@ module _ (cells : List ℕ) (b : Lent) {memo out m x : List ℕ} where
       (told_eight (verdict (line_rules (length cells) b (length memo) (length out))) (line_answer b.list cells) s.tells)
       (line_right b.list (length cells) cells)
 
-  pub line_refused : (n : ℕ) → verdict (line_rules (length cells) b (length memo) (length out)) ≡ Fine
+  pub line_refused : (n : ℕ) → verdict (line_rules (length cells) b (length memo) (length out)) ≡ Ok tt
       → Refused (Placement b.list (length cells)) cells → SolvesLine cells b memo out n m x → n ≡ 8
   line_refused n e r s = s.tells ∙ rw (e, line_only b.list cells none r)
 
@@ -75,7 +74,7 @@ module _ (cells sizes : List ℕ) where
         let e = told_eight (verdict (binary_line_rules cells sizes (length memo) (length out))) (read_back_of (line_answer (map black sizes) sets)) s.tells in
         subst (Answers P sets) (no_answer (line_answer (map black sizes) sets) e) (line_right (map black sizes) (length sets) sets)
 
-    pub binary_refused : (n : ℕ) → verdict (binary_line_rules cells sizes (length memo) (length out)) ≡ Fine → Refused P sets
+    pub binary_refused : (n : ℕ) → verdict (binary_line_rules cells sizes (length memo) (length out)) ≡ Ok tt → Refused P sets
         → SolvesBinaryLine cells sizes memo out n m x → n ≡ 8
     binary_refused n e r s = s.tells ∙ rw (e, line_only (map black sizes) sets none r)
 
@@ -87,7 +86,7 @@ module _ (cells sizes : List ℕ) where
         (r.0, (subst (Answers P sets) r.1.0 (line_right (map black sizes) (length sets) sets), r.1.1))
 
     module _ (s : SolvesBinaryLine cells sizes memo out 0 m x) (i : ℕ) (h : i < length cells) where
-      told : verdict (binary_line_rules cells sizes (length memo) (length out)) ≡ Fine
+      told : verdict (binary_line_rules cells sizes (length memo) (length out)) ≡ Ok tt
       told =
           (told_zero (verdict (binary_line_rules cells sizes (length memo) (length out))) (read_back_of (line_answer (map black sizes) sets)) out s.tells).0
 

@@ -7,25 +7,34 @@ mod judge;
 pub mod multicolor;
 
 ghost use Rattle.std.specs.Prelude.{◌≡◌};
+ghost use Rattle.line.specs.declared.LineError.TheVariants.{Refused};
 ghost use Rattle.line.specs.Calls.{line_answer_number};
 
-use rules::{Refusal, refusal_number};
+use rules::Refusal;
 
-// The answer of a call that solves a line: 0, 8, or a refusal by checking.
+// Why a line is not solved: no placement agrees with it, or its input is refused by checking.
 #[derive(Clone, Copy)]
-pub enum LineAnswer {
-    Done,
+pub enum LineError {
     Unsolvable,
     Refused(Refusal),
 }
 
-// Document 01's number of an answer.
-pub fn answer_number(answer: LineAnswer) -> u32
+// A refusal by checking is one of a line.
+impl From<Refusal> for LineError {
+    ghost from_gives = { λ refusal error. error ≡ Refused refusal };
+
+    fn from(refusal: Refusal) -> LineError {
+        LineError::Refused(refusal)
+    }
+}
+
+// Document 01's number of an answer: 0, 8, or that of a refusal by checking. `Result` and `u32` are std's, so no `From` can say it.
+pub fn answer_number(answer: Result<(), LineError>) -> u32
     ensures { result ≡ line_answer_number answer }
 {
     match answer {
-        LineAnswer::Done => 0,
-        LineAnswer::Unsolvable => 8,
-        LineAnswer::Refused(w) => refusal_number(w),
+        Ok(()) => 0,
+        Err(LineError::Unsolvable) => 8,
+        Err(LineError::Refused(refusal)) => u32::from(refusal),
     }
 }

@@ -1,9 +1,10 @@
 -- Words in a line of a card: which bytes they are made of, and what they are read as.
-use Rattle.std.specs.Prelude.{Bool, cond, ◌&&◌, ◌||◌, List, [], ◌∷◌, ℕ, ◌+◌, ◌-◌, ◌*◌, eqb, ltb, leb, length}
+use Rattle.std.specs.Prelude.{Bool, cond, ◌&&◌, ◌||◌, List, [], ◌∷◌, ℕ, ◌+◌, ◌-◌, ◌*◌, eqb, ltb, leb, length, Result, Ok, Err}
+use Rattle.std.specs.List.{take_while}
 use Rattle.non.specs.declared.words.Class.{Class}
 use Rattle.non.specs.declared.words.Class.TheVariants.{Number, Key, Name}
-use Rattle.non.specs.declared.words.Word.{Word}
-use Rattle.non.specs.declared.words.Word.TheVariants.{Is, Long, Missing}
+use Rattle.non.specs.declared.words.NoValue.{NoValue}
+use Rattle.non.specs.declared.words.NoValue.TheVariants.{Long, Missing}
 
 -- the bytes 0 to 9
 abbrev pub digit : ℕ → Bool
@@ -37,21 +38,16 @@ most_of Key = 18446744073709551615
 most_of Name = 18446744073709551615
 
 -- the bytes of the class that a text begins with
-unfoldable pub word_in : Class → List ℕ → List ℕ
-word_in k [] = []
-word_in k (b ∷ l) = cond (in_word k b) (b ∷ word_in k l) []
+abbrev pub word_in : Class → List ℕ → List ℕ
+word_in k l = take_while (in_word k) l
 
 -- the value of what was read before, with more bytes after it
 unfoldable pub value_from : Class → ℕ → List ℕ → ℕ
 value_from k v [] = v
 value_from k v (b ∷ l) = value_from k (v * base_of k + worth_of k b) l
 
--- what the bytes of a word that begins at an index are read as: their value, and where they end
-abbrev pub read_as : Class → ℕ → List ℕ → Word
-read_as k from w =
-    cond (eqb (length w) 0) Missing
-    (cond (ltb (most_of k) (value_from k 0 w)) Long (Is (value_from k 0 w) (from + length w)))
-
--- the word from one index to another, of which nothing is missing
-abbrev pub word_to : ℕ → ℕ → ℕ → Word
-word_to v from end = cond (eqb end from) Missing (Is v end)
+-- what the bytes of a word are read as: their value, where there are bytes and it is none too large
+abbrev pub read_as : Class → List ℕ → Result ℕ NoValue
+read_as k w =
+    cond (eqb (length w) 0) (Err Missing)
+    (cond (ltb (most_of k) (value_from k 0 w)) (Err Long) (Ok (value_from k 0 w)))

@@ -1,82 +1,57 @@
-// One block in a line of a card, and what stands after it.
-use crate::faults;
+// One block in a line of a card.
 use crate::faults::Fault;
 use crate::palette::BLACK;
-use crate::words::{Class, Word, is_letter, read_word};
+use crate::words::{Class, NoValue};
 
-// A block with its colour's word, and where it ends; or what is wrong with it.
+// A block with its colour's word.
 #[derive(Clone, Copy)]
-pub(crate) enum Block {
-    Is { size: u32, word: u64, end: usize },
-    Bad(Fault),
-}
-
-// What stands after a block: a comma, with the place after it; the line's end; or what is wrong.
-#[derive(Clone, Copy)]
-pub(crate) enum After {
-    Comma(usize),
-    End,
-    Bad(Fault),
+pub(crate) struct Block {
+    pub(crate) size: u32,
+    pub(crate) word: u64,
 }
 
 // What is wrong where a size should begin.
-fn lack_of_size(text: &[u8], at: usize) -> Fault {
-    if at < text.len() {
-        let byte = text[at];
-        if is_letter(byte) {
-            return faults::MISSING_LINE;
-        }
-        if byte != b',' && byte != b':' {
-            return faults::UNKNOWN_TEXT;
-        }
-    }
-    faults::MISSING_SIZE
-}
-
-// Reads the colour of a block, if one is written after its size.
-fn read_colour(text: &[u8], size: u32, at: usize) -> Block {
-    if at < text.len() {
-        if text[at] == b':' {
-            let word = read_word(Class::Name, text, at + 1);
-            return match word {
-                Word::Is { value, end } => Block::Is {
-                    size,
-                    word: value,
-                    end,
-                },
-                Word::Long => Block::Bad(faults::LONG_COLOUR),
-                Word::Missing => Block::Bad(faults::MISSING_COLOUR),
-            };
-        }
-    }
-    Block::Is {
-        size,
-        word: BLACK,
-        end: at,
+fn lack_of_size(text: &[u8]) -> Fault {
+    match text.first() {
+        None | Some(b':') => Fault::MissingSize,
+        Some(byte) if byte.is_ascii_alphabetic() => Fault::MissingLine,
+        Some(_) => Fault::UnknownText,
     }
 }
 
-pub(crate) fn read_block(text: &[u8], at: usize) -> Block {
-    let word = read_word(Class::Number, text, at);
-    match word {
-        Word::Is { value, end } => {
-            if value == 0 {
-                return Block::Bad(faults::EMPTY_BLOCK);
-            }
-            read_colour(text, value as u32, end)
-        }
-        Word::Long => Block::Bad(faults::LARGE_NUMBER),
-        Word::Missing => Block::Bad(lack_of_size(text, at)),
+// Reads the colour of a block, if one is written after its size, and hands out what stands after it.
+fn read_colour(text: &[u8]) -> Result<(u64, &[u8]), Fault> {
+    let Some(name) = text.strip_prefix(b":") else {
+        return Ok((BLACK, text));
+    };
+    let (word, rest) = Class::Name.split(name);
+    match Class::Name.value(word) {
+        Ok(value) => Ok((value, rest)),
+        Err(NoValue::Long) => Err(Fault::LongColour),
+        Err(NoValue::Missing) => Err(Fault::MissingColour),
     }
 }
 
-pub(crate) fn look_after(text: &[u8], at: usize) -> After {
-    if at < text.len() {
-        return match text[at] {
-            b',' => After::Comma(at + 1),
-            b' ' => After::Bad(faults::MISSING_COMMA),
-            _ => After::Bad(faults::UNKNOWN_TEXT),
-        };
+// Reads the block that a text begins with, and hands out what stands after it.
+pub(crate) fn read_block(text: &[u8]) -> Result<(Block, &[u8]), Fault> {
+    let (word, rest) = Class::Number.split(text);
+    match Class::Number.value(word) {
+        Ok(0) => Err(Fault::EmptyBlock),
+        Ok(value) => {
+            let (word, rest) = read_colour(rest)?;
+            let size = value as u32;
+            Ok((Block { size, word }, rest))
+        }
+        Err(NoValue::Long) => Err(Fault::LargeNumber),
+        Err(NoValue::Missing) => Err(lack_of_size(text)),
     }
-    After::End
+}
+
+// Judges what stands between a block and the next comma or the line's end.
+pub(crate) fn end_block(text: &[u8]) -> Result<(), Fault> {
+    match text.first() {
+        None => Ok(()),
+        Some(b' ') => Err(Fault::MissingComma),
+        Some(_) => Err(Fault::UnknownText),
+    }
 }

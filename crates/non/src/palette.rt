@@ -1,72 +1,67 @@
-// The colours of a card and their words: the first numbers of its list, two for each bit of a set of colours.
-ghost use Rattle.std.specs.Prelude.{◌≡◌, ◌+◌, ◌*◌, ◌≤◌, ◌<◌};
-ghost use Rattle.non.specs.Colours.{colour_at, word_at, ColourOrNone};
+// The colours of a card and their words.
+ghost use Rattle.std.specs.Prelude.{◌≡◌, ◌<◌, [], length, take, get_or, IfSome};
+ghost use Rattle.non.specs.Colours.{word_at, IsColour, HasWord};
 
-use crate::layout::ROOM;
+use arrayvec::ArrayVec;
 
-// How many bits a set of colours has.
-pub const BITS: u32 = 32;
+// How many colours a card can have beside blank: a set of colours has a bit for each, and one for blank.
+pub const MOST_COLOURS: usize = 31;
+
+// The word of blank, `.`.
+const BLANK: u64 = 46;
 
 // The word of black, `#`.
 pub const BLACK: u64 = 35;
 
-fn join(low: u32, high: u32) -> u64
-    ensures { result ≡ high * 4294967296 + low }
-{
-    (high as u64) * 4294967296 + low as u64
+// The words of a card's colours, without that of blank: the first is that of bit 1. They are numbers, and no texts, since the definitions
+// `read_as` and, in solve, `shown` speak of them so.
+#[derive(Drop)]
+pub struct Palette {
+    pub words: ArrayVec<u64, MOST_COLOURS>,
 }
 
-// The word of a colour's bit; 0 where the card has no such colour.
-pub fn word_at(card: &[u32; ROOM], bit: u32) -> u64
-    ensures { result ≡ word_at card.now bit }
-{
-    if bit < BITS {
-        let at = 2 * bit as usize;
-        return join(card[at], card[at + 1]);
-    }
-    0
-}
-
-// The bit of a colour's word, or the first that has none; 32 where there is neither.
-fn find_word(card: &[u32; ROOM], low: u32, high: u32) -> u32
-    ensures { (1 ≤ result) × (result ≤ 32) }
-{
-    let mut bit = 1;
-    while bit < BITS {
-        let at = 2 * bit as usize;
-        let held = card[at];
-        if held == 0 {
-            return bit;
+impl Palette {
+    // A palette of blank alone.
+    pub fn new() -> Palette
+        ensures { result.words.items ≡ [] }
+    {
+        Palette {
+            words: ArrayVec::new(),
         }
-        if held == low {
-            if card[at + 1] == high {
-                return bit;
-            }
+    }
+
+    // The word of a colour's bit; 0 where the card has no such colour.
+    pub fn word_at(&self, bit: usize) -> u64
+        ensures { result ≡ word_at self.now.words.items bit }
+    {
+        if bit == 0 {
+            return BLANK;
         }
-        bit += 1;
+        self.words.as_slice().get(bit - 1).copied().unwrap_or(0)
     }
-    bit
-}
 
-fn colour_of(bit: u32) -> u32
-    requires { bit < 32 }
-    ensures { result ≡ colour_at bit }
-{
-    1u32 << bit
-}
-
-// The colour of a word, which is added where it is new; 0 where there is no bit for it.
-pub(crate) fn know_word(card: &mut [u32; ROOM], word: u64) -> u32
-    ensures { ColourOrNone result }
-{
-    let low = (word % 4294967296) as u32;
-    let high = (word / 4294967296) as u32;
-    let bit = find_word(card, low, high);
-    if bit < BITS {
-        let at = 2 * bit as usize;
-        card[at] = low;
-        card[at + 1] = high;
-        return colour_of(bit);
+    // The place of a word, which is added where it is new; none where there is no room for it.
+    fn place_of(&mut self, word: u64) -> Option<usize>
+        ensures room { IfSome result (λ p. p < 31) }
+        ensures named { IfSome result (λ p. get_or self.new.words.items p 0 ≡ word) }
+        ensures kept { take (length self.old.words.items) self.new.words.items ≡ self.old.words.items }
+    {
+        let known = self.words.as_slice().iter().position(|&held| held == word);
+        if known.is_some() {
+            return known;
+        }
+        let place = self.words.len();
+        self.words.try_push(word).ok()?;
+        Some(place)
     }
-    0
+
+    // The colour of a word, which is added where it is new; none where there is no bit for it. The words that there were keep their bits.
+    pub(crate) fn know_word(&mut self, word: u64) -> Option<u32>
+        ensures colour { IfSome result IsColour }
+        ensures named { IfSome result (λ c. HasWord self.new.words.items c word) }
+        ensures kept { take (length self.old.words.items) self.new.words.items ≡ self.old.words.items }
+    {
+        let place = self.place_of(word)?;
+        Some(1u32 << (place + 1))
+    }
 }

@@ -1,6 +1,6 @@
 // Words and numbers in a line of a card.
-ghost use Rattle.std.specs.Prelude.{◌≡◌, drop};
-ghost use Rattle.non.specs.Wording.{digit, letter, in_word, base_of, worth_of, most_of, word_in, read_as, word_to};
+ghost use Rattle.std.specs.Prelude.{◌≡◌, ◌+◌, ◌*◌, ◌≤◌, length, drop, SomeIff, IfOk};
+ghost use Rattle.non.specs.Wording.{in_word, base_of, worth_of, most_of, word_in, read_as};
 
 // The kinds of word: a number below 2^32, a key of letters, and a colour's name of letters and digits.
 #[derive(Clone, Copy)]
@@ -10,115 +10,93 @@ pub(crate) enum Class {
     Name,
 }
 
-// The word that begins at a byte: its value and where it ends; one that is too long; or none.
+// Why a word has no value: it is too long, or it has no byte.
 #[derive(Clone, Copy)]
-pub(crate) enum Word {
-    Is { value: u64, end: usize },
+pub(crate) enum NoValue {
     Long,
     Missing,
 }
 
-pub(crate) fn is_digit(byte: u8) -> bool
-    ensures { result ≡ digit byte }
-{
-    if b'0' <= byte {
-        return byte <= b'9';
-    }
-    false
-}
-
-pub(crate) fn is_letter(byte: u8) -> bool
-    ensures { result ≡ letter byte }
-{
-    if byte <= b'Z' {
-        return b'A' <= byte;
-    }
-    if b'a' <= byte {
-        return byte <= b'z';
-    }
-    false
-}
-
-// Whether a word of the class can have the byte.
-pub(crate) fn belongs(class: Class, byte: u8) -> bool
-    ensures { result ≡ in_word class byte }
-{
-    match class {
-        Class::Number => is_digit(byte),
-        Class::Key => is_letter(byte),
-        Class::Name => {
-            if is_digit(byte) {
-                return true;
-            }
-            is_letter(byte)
+impl Class {
+    // Whether a word of the class can have the byte.
+    pub(crate) fn has(self, byte: u8) -> bool
+        ensures { result ≡ in_word self byte }
+    {
+        match self {
+            Class::Number => byte.is_ascii_digit(),
+            Class::Key => byte.is_ascii_alphabetic(),
+            Class::Name => byte.is_ascii_alphanumeric(),
         }
     }
-}
 
-fn base_of(class: Class) -> u64
-    ensures { result ≡ base_of class }
-{
-    match class {
-        Class::Number => 10,
-        Class::Key => 256,
-        Class::Name => 256,
-    }
-}
-
-fn most_of(class: Class) -> u64
-    ensures { result ≡ most_of class }
-{
-    match class {
-        Class::Number => 4294967295,
-        Class::Key => u64::MAX,
-        Class::Name => u64::MAX,
-    }
-}
-
-// What a byte adds to a word's value: a digit of a number what it stands for, another byte itself.
-fn worth_of(class: Class, byte: u8) -> u64
-    ensures { result ≡ worth_of class byte }
-{
-    match class {
-        Class::Number => {
-            if byte < b'0' {
-                return 0;
-            }
-            (byte - b'0') as u64
+    fn base(self) -> u64
+        ensures { result ≡ base_of self }
+    {
+        match self {
+            Class::Number => 10,
+            Class::Key | Class::Name => 256,
         }
-        Class::Key => byte as u64,
-        Class::Name => byte as u64,
     }
-}
 
-fn word_of(value: u64, from: usize, end: usize) -> Word
-    ensures { result ≡ word_to value from end }
-{
-    if end == from {
-        return Word::Missing;
+    fn most(self) -> u64
+        ensures { result ≡ most_of self }
+    {
+        match self {
+            Class::Number => 4294967295,
+            Class::Key | Class::Name => u64::MAX,
+        }
     }
-    Word::Is { value, end }
-}
 
-// Reads the longest word of the class that begins there.
-pub(crate) fn read_word(class: Class, text: &[u8], from: usize) -> Word
-    ensures { result ≡ read_as class from (word_in class (drop from text.now)) }
-{
-    let base = base_of(class);
-    let most = most_of(class);
-    let mut value = 0;
-    let mut end = from;
-    while end < text.len() {
-        let byte = text[end];
-        if !belongs(class, byte) {
-            return word_of(value, from, end);
+    // What a byte adds to a word's value: a digit of a number what it stands for, another byte itself.
+    fn worth(self, byte: u8) -> u64
+        ensures { result ≡ worth_of self byte }
+    {
+        match self {
+            Class::Number => u64::from(byte.saturating_sub(b'0')),
+            Class::Key | Class::Name => u64::from(byte),
         }
-        let worth = worth_of(class, byte);
-        if value > (most - worth) / base {
-            return Word::Long;
-        }
-        value = value * base + worth;
-        end += 1;
     }
-    word_of(value, from, end)
+
+    // The value with one byte more; none where that is too large.
+    fn append(self, value: u64, byte: u8) -> Option<u64>
+        ensures { SomeIff result (value * base_of self + worth_of self byte ≤ most_of self) (value * base_of self + worth_of self byte) }
+    {
+        value
+            .checked_mul(self.base())?
+            .checked_add(self.worth(byte))
+            .filter(|&sum| sum <= self.most())
+    }
+
+    // What the bytes of a word of the class are read as.
+    pub(crate) fn value(self, word: &[u8]) -> Result<u64, NoValue>
+        ensures value { result ≡ read_as self word.now }
+        ensures most { IfOk result (λ v. v ≤ most_of self) }
+    {
+        if word.is_empty() {
+            return Err(NoValue::Missing);
+        }
+        let mut value = 0;
+        for &byte in word {
+            let Some(sum) = self.append(value, byte) else {
+                return Err(NoValue::Long);
+            };
+            value = sum;
+        }
+        Ok(value)
+    }
+
+    // How many bytes of the class a text begins with.
+    fn reach(self, text: &[u8]) -> usize
+        ensures { result ≡ length (word_in self text.now) }
+    {
+        text.iter().take_while(|&&byte| self.has(byte)).count()
+    }
+
+    // The longest word of the class that a text begins with, and what stands after it.
+    pub(crate) fn split(self, text: &[u8]) -> (&[u8], &[u8])
+        ensures word { result.0.now ≡ word_in self text.now }
+        ensures rest { result.1.now ≡ drop (length (word_in self text.now)) text.now }
+    {
+        text.split_at(self.reach(text))
+    }
 }

@@ -1,8 +1,7 @@
-pub mod Headings
-pub mod Lines
 pub mod Meaning
 pub mod Order
+pub mod Pages
 pub mod Pixels
-pub mod Skipped
+pub mod Reading
 pub mod Told
 pub mod Unique

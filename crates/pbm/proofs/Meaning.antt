@@ -1,5 +1,7 @@
 -- What the calls' own answers mean: a picture that was read has that text, and the text of a picture is read as it; every refusal is told at
 -- its stage; what was written has the fixed form, and reading it gives the picture back.
+use Rattle.std.specs.Prelude.{Result, Err, Ok}
+use Rattle.rules.specs.Refusal.{GoodSides, verdict, reply, left, written, Verdict}
 use mathlib.Core.Path.{◌≡◌, refl, sym, ap, subst, ◌∙◌}
 use mathlib.Core.List.{List, [], ◌∷◌}
 use Prim.Native.Nat.{ℕ, ◌*◌, ◌≤◌}
@@ -7,17 +9,12 @@ use native.Mathlib.Omega.{arith}
 use lib.ListN.{length, take, drop}
 use lib.Seq.{take-append_seam}
 use Rattle.rules.specs.Pbm.{TextOf, Stage, a_picture, heading, read_rules, sides_read, codes_read, pbm_text, write_rules}
-use Rattle.rules.specs.Refusal.{GoodSides, verdict, reply, left, written}
 use Rattle.rules.specs.declared.Refusal.{Refusal}
-use Rattle.rules.specs.declared.Verdict.{Verdict}
-use Rattle.rules.specs.declared.Verdict.TheVariants.{Fine, Bad}
-use Rattle.rules.specs.declared.ListAnswer.TheVariants.{Done}
 use Rattle.rules.proofs.Replies.{number_one, by_checking, head_one, done_count}
 use Rattle.rules.proofs.PbmTexts.{stage_computed, stage_rules, text_computed}
 use Rattle.rules.proofs.PbmRounds.{written_text}
 use Rattle.pbm.specs.Calls.{pbm_reply, ReadsPbm, WritesPbm}
-use Rattle.pbm.specs.declared.PbmAnswer.{PbmAnswer}
-use Rattle.pbm.specs.declared.PbmAnswer.TheVariants as pbm
+use Rattle.pbm.specs.declared.Sides.{Sides}
 use Rattle.pbm.proofs.Told.{writing_fine}
 use Rattle.pbm.proofs.Unique.{pbm_reply_one}
 
@@ -28,14 +25,14 @@ take_written vs out = take-append_seam vs (drop (length vs) out)
 -- ---- reading
 
 -- a done call was refused by no rule, and told the sides
-sides_told : (v : Verdict) {w h : ℕ} {l : List ℕ} → pbm_reply (pbm.Done w h) ≡ reply v l → (v ≡ Fine) × (w ∷ h ∷ [] ≡ l)
-sides_told Fine e = (refl, cc)
-sides_told (Bad u) e = let n = ap length e in absurd (omega arith)
+sides_told : (v : Verdict) {w h : ℕ} {l : List ℕ} → pbm_reply (Ok (record { width = w; height = h })) ≡ reply v l → (v ≡ Ok tt) × (w ∷ h ∷ [] ≡ l)
+sides_told (Ok _) e = (refl, cc)
+sides_told (Err u) e = let n = ap length e in absurd (omega arith)
 
 -- a refused one was refused by that rule
-refusal_told : (v : Verdict) (l : List ℕ) {u : Refusal} → pbm_reply (pbm.Refused u) ≡ reply v l → v ≡ Bad u
-refusal_told Fine l {u} e = absurd ((by_checking u).0 (head_one e))
-refusal_told (Bad w) l {u} e = ap (λ x. Bad x) (number_one w u (sym (head_one e)))
+refusal_told : (v : Verdict) (l : List ℕ) {u : Refusal} → pbm_reply (Err u) ≡ reply v l → v ≡ Err u
+refusal_told (Ok _) l {u} e = absurd ((by_checking u).0 (head_one e))
+refusal_told (Err w) l {u} e = ap (λ x. Err x) (number_one w u (sym (head_one e)))
 
 -- what a picture's text, its sides and the codes after a call that read it have to do with each other
 pub record PictureRead (text codes : List ℕ) (w h : ℕ) (codes' : List ℕ) : Type 0 where
@@ -47,13 +44,13 @@ pub record PictureRead (text codes : List ℕ) (w h : ℕ) (codes' : List ℕ) :
 
 module _ (text : List ℕ) {codes codes' : List ℕ} where
   -- with 0 the text is one of the picture that the call left
-  pub read_picture_lem : {w h : ℕ} → ReadsPbm text codes (pbm.Done w h) codes' → PictureRead text codes w h codes'
+  pub read_picture_lem : {w h : ℕ} → ReadsPbm text codes (Ok (record { width = w; height = h })) codes' → PictureRead text codes w h codes'
   read_picture_lem {w} {h} a =
       let p = sides_told (verdict (read_rules (length codes) (heading text))) a.answers in
       go (subst (λ (v : Verdict). Stage (length codes) text v) p.0 (stage_rules (length codes) text)) p.1
       (a.leaves ∙ ap (λ v. left v (codes_read (heading text)) codes) p.0)
     where
-      go : Stage (length codes) text Fine → w ∷ h ∷ [] ≡ sides_read (heading text) → codes' ≡ written (codes_read (heading text)) codes
+      go : Stage (length codes) text (Ok tt) → w ∷ h ∷ [] ≡ sides_read (heading text) → codes' ≡ written (codes_read (heading text)) codes
           → PictureRead text codes w h codes'
       go (a_picture {w = x} {h = y} {codes = vs} t g r) e l =
           let c = text_computed t in
@@ -69,29 +66,29 @@ module _ (text : List ℕ) {codes codes' : List ℕ} where
           }
 
   -- and any text of a picture that fits is read as it
-  pub picture_read : {w h : ℕ} {vs : List ℕ} {r : PbmAnswer} → TextOf w h vs text → GoodSides w h → w * h ≤ length codes → ReadsPbm text codes r codes'
-      → (r ≡ pbm.Done w h) × (codes' ≡ written vs codes)
+  pub picture_read : {w h : ℕ} {vs : List ℕ} {r : Result Sides Refusal} → TextOf w h vs text → GoodSides w h → w * h ≤ length codes → ReadsPbm text codes r codes'
+      → (r ≡ Ok (record { width = w; height = h })) × (codes' ≡ written vs codes)
   picture_read {w} {h} {r = r} t g q a =
       let v = stage_computed (a_picture t g q) in
       let c = text_computed t in (
-        pbm_reply_one r (pbm.Done w h) (a.answers ∙ rw (v, c.0)),
+        pbm_reply_one r (Ok (record { width = w; height = h })) (a.answers ∙ rw (v, c.0)),
         a.leaves ∙ rw (v, c.1),
       )
 
   -- a refusal is told at its stage, and nowhere else
-  pub stage_read : {u : Refusal} {r : PbmAnswer} → Stage (length codes) text (Bad u) → ReadsPbm text codes r codes'
-      → (r ≡ pbm.Refused u) × (codes' ≡ codes)
-  stage_read {u} {r} s a = let v = stage_computed s in (pbm_reply_one r (pbm.Refused u) (a.answers ∙ rw v), a.leaves ∙ rw v)
+  pub stage_read : {u : Refusal} {r : Result Sides Refusal} → Stage (length codes) text (Err u) → ReadsPbm text codes r codes'
+      → (r ≡ Err u) × (codes' ≡ codes)
+  stage_read {u} {r} s a = let v = stage_computed s in (pbm_reply_one r (Err u) (a.answers ∙ rw v), a.leaves ∙ rw v)
 
-  pub read_stage : {u : Refusal} → ReadsPbm text codes (pbm.Refused u) codes' → Stage (length codes) text (Bad u)
+  pub read_stage : {u : Refusal} → ReadsPbm text codes (Err u) codes' → Stage (length codes) text (Err u)
   read_stage a =
       subst (λ (v : Verdict). Stage (length codes) text v) (refusal_told (verdict (read_rules (length codes) (heading text))) (sides_read (heading text)) a.answers)
       (stage_rules (length codes) text)
 
 -- ---- writing
 
-module _ (w h : ℕ) (b : List ℕ) {text : List ℕ} {n : ℕ} {text' : List ℕ} (a : WritesPbm w h b text (Done n) text') where
-  fine : verdict (write_rules w h b (length text)) ≡ Fine
+module _ (w h : ℕ) (b : List ℕ) {text : List ℕ} {n : ℕ} {text' : List ℕ} (a : WritesPbm w h b text (Ok n) text') where
+  fine : verdict (write_rules w h b (length text)) ≡ Ok tt
   fine = (done_count (verdict (write_rules w h b (length text))) a.answers).0
 
   -- with 0 what was written has the one fixed form
@@ -101,8 +98,8 @@ module _ (w h : ℕ) (b : List ℕ) {text : List ℕ} {n : ℕ} {text' : List �
       ap (λ l. take n l) (a.leaves ∙ rw fine) ∙ ap (λ k. take k (written (pbm_text w h b) text)) c ∙ take_written (pbm_text w h b) text
 
   -- and reading it gives the picture back, with its sides
-  pub written_read : {codes codes' : List ℕ} {r : PbmAnswer} → ReadsPbm (take n text') codes r codes' → w * h ≤ length codes
-      → (r ≡ pbm.Done w h) × (codes' ≡ written b codes)
+  pub written_read : {codes codes' : List ℕ} {r : Result Sides Refusal} → ReadsPbm (take n text') codes r codes' → w * h ≤ length codes
+      → (r ≡ Ok (record { width = w; height = h })) × (codes' ≡ written b codes)
   written_read {codes} {codes'} {r} c q =
       let f = writing_fine w h b (length text) fine in
       picture_read (pbm_text w h b) (written_text w h b f.sides f.size f.inked) f.sides q

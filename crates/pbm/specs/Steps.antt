@@ -1,71 +1,60 @@
 -- What the private functions say. A reader of the public calls needs none of it.
-use Rattle.std.specs.Prelude.{◌≡◌, cond, false, List, ℕ, ◌+◌, ◌*◌, ◌≤◌, ltb, length, drop}
-use Rattle.std.proofs.Math.Option.{Option, none, some}
-use Rattle.rules.specs.Pbm.{Sized, numeral_at, size_at, Heading, heading_with, heading, is_other}
-use Rattle.rules.specs.Ranges.{any_of}
-use Rattle.pbm.specs.declared.heading.Size.{Size}
-use Rattle.pbm.specs.declared.heading.Size.TheVariants as size
-use Rattle.pbm.specs.declared.heading.Sides.{Sides}
-use Rattle.pbm.specs.declared.heading.Sides.TheVariants as sides
+use Rattle.std.specs.Prelude.{◌≡◌, cond, false, List, ℕ, ◌+◌, ◌*◌, ◌<◌, ◌≤◌, ltb, length, Option, None, MatchOption}
+use Rattle.std.proofs.Math.Option as math
+use Rattle.rules.specs.Pbm.{Sized, Heading, is_other}
+use Rattle.std.specs.List.{list_any}
+use Rattle.std.proofs.lemmas.List.Edits.{sets}
+use Rattle.pbm.specs.declared.Sides.{Sides}
+use Rattle.pbm.specs.declared.page.Page.{Page}
+use Rattle.pbm.specs.declared.numbers.Digits.{Digits}
+use Rattle.pbm.specs.declared.heading.Heading as found
 
 -- ---- a size is held to at most 65: those above 64 are all refused alike
 
 abbrev pub held : ℕ → ℕ
 held n = cond (ltb 64 n) 65 n
 
--- the digits z of a text were read: v is their value, held, and the text from index e on is what is left
-pub record DigitsRead (text : List ℕ) (z : Sized) (v e : ℕ) : Type 0 where
-  pub value : v ≡ held z.value
-  pub end : e ≤ length text
-  pub rest : drop e text ≡ z.rest
+-- the digits z were read: their value, held, and what is left
+pub record DigitsRead (z : Sized) (d : Digits) : Type 0 where
+  pub value : d.value ≡ held z.value
+  pub rest : d.rest.now ≡ z.rest
 
--- the size o of a text was read, or there is none
-pub record SizeFound (text : List ℕ) (o : Option Sized) (v e : ℕ) : Type 0 where
-  pub size : Sized
-  pub is : o ≡ some size
-  pub read : DigitsRead text size v e
+-- the size o was read, or there is none
+abbrev pub SizeRead : math.Option Sized → Option Digits → Type 0
+SizeRead math.none r = r ≡ None
+SizeRead (math.some z) r = MatchOption r ⊥ (DigitsRead z)
 
-abbrev pub Found : List ℕ → Option Sized → Size → Type 0
-Found text o size.Broken = o ≡ none
-Found text o (size.Read v e) = SizeFound text o v e
+-- the heading h was read: its sides, held, and what is left
+pub record HeadingHeld (h : Heading) (f : found.Heading) : Type 0 where
+  pub width : f.sides.width ≡ held h.width
+  pub height : f.sides.height ≡ held h.height
+  pub rest : f.rest.now ≡ h.rest
 
--- t is the text from some index on
-abbrev pub NumeralRead : List ℕ → List ℕ → Size → Type 0
-NumeralRead text t r = Found text (numeral_at t) r
-
-abbrev pub SizeRead : List ℕ → List ℕ → Size → Type 0
-SizeRead text t r = Found text (size_at t) r
-
--- the heading o of a text was read, or there is none
-pub record SidesFound (text : List ℕ) (o : Option Heading) (v u e : ℕ) : Type 0 where
-  pub heading : Heading
-  pub is : o ≡ some heading
-  pub width : v ≡ held heading.width
-  pub height : u ≡ held heading.height
-  pub end : e ≤ length text
-  pub rest : drop e text ≡ heading.rest
-
-abbrev pub FoundSides : List ℕ → Option Heading → Sides → Type 0
-FoundSides text o sides.Broken = o ≡ none
-FoundSides text o (sides.Read v u e) = SidesFound text o v u e
-
--- v is the width w, held
-abbrev pub HeightRead : List ℕ → ℕ → List ℕ → Sides → Type 0
-HeightRead text v t r = (w : ℕ) → v ≡ held w → FoundSides text (heading_with w (size_at t)) r
-
-abbrev pub SidesRead : List ℕ → Sides → Type 0
-SidesRead text r = FoundSides text (heading text) r
+-- the heading o was read, or there is none
+abbrev pub HeadingRead : math.Option Heading → Option found.Heading → Type 0
+HeadingRead math.none r = r ≡ None
+HeadingRead (math.some h) r = MatchOption r ⊥ (HeadingHeld h)
 
 -- ---- writing
 
 -- every code is 1 or 2
 abbrev pub Inked : List ℕ → Type 0
-Inked b = any_of is_other b ≡ false
+Inked b = list_any is_other b ≡ false
 
--- the text has room for the rows from index i on
-pub record RowsRoom (w h : ℕ) (b text : List ℕ) (i : ℕ) : Type 0 where
-  pub wide : w ≤ 64
-  pub high : h ≤ 64
-  pub size : length b ≡ w * h
+-- there is room for n bytes more
+abbrev pub Room : Page → ℕ → Type 0
+Room p n = p.end + n ≤ length p.text.now
+
+-- the bytes vs were added to the page p, which is now q: the same text, and what follows them is as it was
+pub record Adds (p : Page) (vs : List ℕ) (q : Page) : Type 0 where
+  pub same : q.text.ghost_name ≡ p.text.ghost_name
+  pub long : length q.text.now ≡ length p.text.now
+  pub end : q.end ≡ p.end + length vs
+  pub holds : q.text.now ≡ sets p.text.now p.end vs
+
+-- the sides and the codes of a picture, and a page with room for its rows
+pub record RowsRoom (s : Sides) (b : List ℕ) (p : Page) : Type 0 where
+  pub wide : 0 < s.width
+  pub size : length b ≡ s.width * s.height
   pub inked : Inked b
-  pub room : i + h * (w + 1) ≤ length text
+  pub room : Room p (s.height * (s.width + 1))

@@ -1,69 +1,39 @@
 // The bytes of a text: whitespace, comments, digits and cells.
 ghost use Rattle.std.specs.Prelude.{◌≡◌};
-ghost use Rattle.rules.specs.Pbm.{is_space_of, is_digit_of, is_line_end, is_pixel_of, is_plain, commented, is_stray_of};
+ghost use Rattle.rules.specs.Pbm.{is_space_of, is_line_end, is_pixel_of, is_plain, commented, is_stray_of};
 
 // Whitespace: space, TAB, LF, VT, FF, CR.
 pub(crate) fn is_space(byte: u8) -> bool
     ensures { result ≡ is_space_of byte }
 {
-    if byte == b' ' {
-        return true;
-    }
-    if byte < b'\t' {
-        return false;
-    }
-    byte <= b'\r'
-}
-
-pub(crate) fn is_digit(byte: u8) -> bool
-    ensures { result ≡ is_digit_of byte }
-{
-    if byte < b'0' {
-        return false;
-    }
-    byte <= b'9'
+    matches!(byte, b' ' | b'\t'..=b'\r')
 }
 
 fn is_line_end(byte: u8) -> bool
     ensures { result ≡ is_line_end byte }
 {
-    if byte == b'\n' {
-        return true;
-    }
-    byte == b'\r'
+    matches!(byte, b'\n' | b'\r')
 }
 
 // A cell of the picture: the digit 0 or the digit 1.
 pub(crate) fn is_pixel(byte: u8) -> bool
     ensures { result ≡ is_pixel_of byte }
 {
-    if byte == b'0' {
-        return true;
-    }
-    byte == b'1'
+    matches!(byte, b'0' | b'1')
 }
 
 // A byte that no raster has.
 pub(crate) fn is_stray(byte: u8) -> bool
     ensures { result ≡ is_stray_of byte }
 {
-    if is_space(byte) {
-        return false;
-    }
-    !is_pixel(byte)
+    !is_space(byte) && !is_pixel(byte)
 }
 
 // A byte that is neither whitespace nor part of a comment. `open`: a comment is open before it.
 pub(crate) fn is_plain(open: bool, byte: u8) -> bool
     ensures { result ≡ is_plain «open» byte }
 {
-    if open {
-        return false;
-    }
-    if is_space(byte) {
-        return false;
-    }
-    byte != b'#'
+    !open && !is_space(byte) && byte != b'#'
 }
 
 // Whether a comment is open after a byte that is not plain.
@@ -71,7 +41,8 @@ pub(crate) fn is_commented(open: bool, byte: u8) -> bool
     ensures { result ≡ commented «open» byte }
 {
     if open {
-        return !is_line_end(byte);
+        !is_line_end(byte)
+    } else {
+        byte == b'#'
     }
-    byte == b'#'
 }

@@ -1,113 +1,68 @@
 // The heading of a text: P1, the width and the height.
-ghost use Rattle.std.specs.Prelude.{◌≡◌, cond, false, ◌≤◌, length, drop};
-ghost use Rattle.std.proofs.Math.Option.{none};
-ghost use Rattle.rules.specs.Pbm.{past_filler, size_at, heading_from, heading};
-ghost use Rattle.pbm.specs.Steps.{NumeralRead, SizeRead, HeightRead, SidesRead};
+ghost use Rattle.std.specs.Prelude.{◌≡◌, false};
+ghost use Rattle.rules.specs.Pbm.{past_filler, numeral_at, size_at, heading};
+ghost use Rattle.pbm.specs.Steps.{SizeRead, HeadingRead};
 
-use crate::bytes::{is_commented, is_digit, is_plain, is_space};
-use crate::numbers::read_digits;
+use crate::Sides;
+use crate::bytes::{is_commented, is_plain, is_space};
+use crate::numbers::{Digits, read_digits};
 
-// A size, where one stands, held to at most 65, and the index after it.
+// Both sizes, each held to at most 65, and the text after them.
 #[derive(Clone, Copy)]
-pub(crate) enum Size {
-    Broken,
-    Read { value: usize, end: usize },
+pub(crate) struct Heading<'a> {
+    pub(crate) sides: Sides,
+    pub(crate) rest: &'a [u8],
 }
 
-// Both sizes, where they stand, and the index after them.
-#[derive(Clone, Copy)]
-pub(crate) enum Sides {
-    Broken,
-    Read {
-        width: usize,
-        height: usize,
-        end: usize,
-    },
-}
-
-// The index of the first byte from `from` on that is neither whitespace nor part of a comment.
-fn skip_filler(text: &[u8], from: usize) -> usize
-    requires { from ≤ length text.now }
-    ensures { (result ≤ length text.now) × (drop result text.now ≡ past_filler false (drop from text.now)) }
+// The text from its first byte on that is neither whitespace nor part of a comment.
+fn skip_filler(text: &[u8]) -> &[u8]
+    ensures { result.now ≡ past_filler false text.now }
 {
     let mut open = false;
-    let mut i = from;
-    while i < text.len() {
-        let byte = text[i];
+    let mut rest = text;
+    while let Some((&byte, tail)) = rest.split_first() {
         if is_plain(open, byte) {
-            return i;
+            return rest;
         }
         open = is_commented(open, byte);
-        i += 1;
+        rest = tail;
     }
-    i
+    rest
 }
 
-// The number at `from`.
-fn read_numeral(text: &[u8], from: usize) -> Size
-    ensures { NumeralRead text.now (drop from text.now) result }
+// The number at the front of the text.
+fn read_numeral(text: &[u8]) -> Option<Digits<'_>>
+    ensures { SizeRead (numeral_at text.now) result }
 {
-    if from < text.len() {
-        if is_digit(text[from]) {
-            let found = read_digits(text, from);
-            return Size::Read {
-                value: found.value,
-                end: found.end,
-            };
-        }
+    if text.first()?.is_ascii_digit() {
+        Some(read_digits(text))
+    } else {
+        None
     }
-    Size::Broken
 }
 
-// The size at `from`: whitespace, more of it and comments, then a number.
-fn read_size(text: &[u8], from: usize) -> Size
-    ensures { SizeRead text.now (drop from text.now) result }
+// The size at the front of the text: whitespace, more of it and comments, then a number.
+fn read_size(text: &[u8]) -> Option<Digits<'_>>
+    ensures { SizeRead (size_at text.now) result }
 {
-    if from < text.len() {
-        if is_space(text[from]) {
-            return read_numeral(text, skip_filler(text, from + 1));
-        }
+    let (&byte, rest) = text.split_first()?;
+    if is_space(byte) {
+        read_numeral(skip_filler(rest))
+    } else {
+        None
     }
-    Size::Broken
 }
 
-// The height at `from`, after a width.
-fn read_height(text: &[u8], width: usize, from: usize) -> Sides
-    ensures { HeightRead text.now width (drop from text.now) result }
+pub(crate) fn read_heading(text: &[u8]) -> Option<Heading<'_>>
+    ensures { HeadingRead (heading text.now) result }
 {
-    let size = read_size(text, from);
-    match size {
-        Size::Broken => Sides::Broken,
-        Size::Read { value, end } => Sides::Read {
-            width,
-            height: value,
-            end,
+    let width = read_size(text.strip_prefix(b"P1")?)?;
+    let height = read_size(width.rest)?;
+    Some(Heading {
+        sides: Sides {
+            width: width.value,
+            height: height.value,
         },
-    }
-}
-
-// Whether the text begins with P1.
-fn has_magic(text: &[u8]) -> bool
-    ensures { heading text.now ≡ cond result (heading_from (size_at (drop 2 text.now))) none }
-{
-    if text.len() < 2 {
-        return false;
-    }
-    if text[0] != b'P' {
-        return false;
-    }
-    text[1] == b'1'
-}
-
-pub(crate) fn read_heading(text: &[u8]) -> Sides
-    ensures { SidesRead text.now result }
-{
-    if !has_magic(text) {
-        return Sides::Broken;
-    }
-    let size = read_size(text, 2);
-    match size {
-        Size::Broken => Sides::Broken,
-        Size::Read { value, end } => read_height(text, value, end),
-    }
+        rest: height.rest,
+    })
 }

@@ -1,16 +1,15 @@
 // Numbers in a text: read held to at most 65, so that no length of them wraps, and written.
-ghost use Rattle.std.specs.Prelude.{◌≡◌, true, ◌+◌, ◌*◌, ◌-◌, ◌≤◌, ◌<◌, length, drop};
+ghost use Rattle.std.specs.Prelude.{◌≡◌, true, ◌+◌, ◌*◌, ◌-◌, ◌≤◌, ◌<◌, length};
 ghost use Rattle.rules.specs.Pbm.{is_digit_of, digits, decimal};
-ghost use Rattle.loops.specs.Put.{Put};
-ghost use Rattle.pbm.specs.Steps.{held, DigitsRead};
+ghost use Rattle.pbm.specs.Steps.{held, DigitsRead, Room, Adds};
 
-use crate::bytes::is_digit;
+use crate::page::Page;
 
-// A longest run of digits: its value, held to at most 65, and the index after it.
+// A number that was read: its value, held to at most 65, and the text after it.
 #[derive(Clone, Copy)]
-pub(crate) struct Digits {
+pub(crate) struct Digits<'a> {
     pub(crate) value: usize,
-    pub(crate) end: usize,
+    pub(crate) rest: &'a [u8],
 }
 
 // The value with a digit more.
@@ -18,51 +17,42 @@ fn add_digit(value: usize, byte: u8) -> usize
     requires { (value ≤ 65) × (is_digit_of byte ≡ true) }
     ensures { result ≡ held (value * 10 + (byte - 48)) }
 {
-    let longer = value * 10 + (byte - b'0') as usize;
-    if 64 < longer {
-        return 65;
-    }
-    longer
+    let longer = value * 10 + usize::from(byte - b'0');
+    longer.min(65)
 }
 
-// The longest run of digits from `from` on.
-pub(crate) fn read_digits(text: &[u8], from: usize) -> Digits
-    requires { from ≤ length text.now }
-    ensures { DigitsRead text.now (digits 0 (drop from text.now)) result.value result.end }
+// The longest run of digits at the front of the text.
+pub(crate) fn read_digits(text: &[u8]) -> Digits<'_>
+    ensures { DigitsRead (digits 0 text.now) result }
 {
     let mut value = 0;
-    let mut i = from;
-    while i < text.len() {
-        let byte = text[i];
-        if !is_digit(byte) {
-            return Digits { value, end: i };
+    let mut rest = text;
+    while let Some((byte, tail)) = rest.split_first() {
+        if !byte.is_ascii_digit() {
+            break;
         }
-        value = add_digit(value, byte);
-        i += 1;
+        value = add_digit(value, *byte);
+        rest = tail;
     }
-    Digits { value, end: i }
+    Digits { value, rest }
 }
 
 // How many digits a number below 100 has.
 pub(crate) fn count_digits(number: usize) -> usize
     ensures { result ≡ length (decimal number) }
 {
-    if number < 10 {
-        return 1;
-    }
-    2
+    if number < 10 { 1 } else { 2 }
 }
 
-// The digits of a number below 100, from index `at` of the text on.
-pub(crate) fn write_number(number: usize, text: &mut [u8], at: usize) -> usize
-    requires { (number < 100) × (at + length (decimal number) ≤ length text.old) }
-    ensures { Put text.old at (decimal number) result text.new }
+// The digits of a number below 100.
+pub(crate) fn write_number(number: usize, page: &mut Page)
+    requires { (number < 100) × Room page.old (length (decimal number)) }
+    ensures { Adds page.old (decimal number) page.new }
 {
     if number < 10 {
-        text[at] = b'0' + number as u8;
-        return at + 1;
+        page.push(b'0' + number as u8);
+    } else {
+        page.push(b'0' + (number / 10) as u8);
+        page.push(b'0' + (number % 10) as u8);
     }
-    text[at] = b'0' + (number / 10) as u8;
-    text[at + 1] = b'0' + (number % 10) as u8;
-    at + 2
 }

@@ -3,54 +3,35 @@ ghost use Rattle.std.specs.Prelude.{◌≡◌};
 ghost use Rattle.std.proofs.Math.Option.{some};
 ghost use Rattle.rules.specs.Pbm.{read_rules};
 ghost use Rattle.rules.specs.Refusal.{verdict};
-ghost use Rattle.pbm.specs.Calls.{Reads, ReadsPbm};
+ghost use Rattle.pbm.specs.Calls.{ReadsPbm};
 
-use crate::PbmAnswer;
-use crate::heading::{Sides, read_heading};
+use crate::Sides;
+use crate::heading::read_heading;
 use crate::raster::{is_drawn, write_pixels};
+use rules::Refusal;
 use rules::judge::judge_sides;
-use rules::{Refusal, Verdict};
 
 // Rules 1 and 2, and 11 for what follows the height.
-fn judge_drawing(width: usize, height: usize, text: &[u8], room: usize) -> Verdict
-    ensures { result ≡ verdict (read_rules room (some (record { width = width; height = height; rest = text.now }))) }
+fn judge_drawing(sides: Sides, text: &[u8], room: usize) -> Result<(), Refusal>
+    ensures { result ≡ verdict (read_rules room (some (record { width = sides.width; height = sides.height; rest = text.now }))) }
 {
-    let v = judge_sides(width, height);
-    match v {
-        Verdict::Bad(w) => Verdict::Bad(w),
-        Verdict::Fine => {
-            if room < width * height {
-                return Verdict::Bad(Refusal::BadRoom);
-            }
-            if !is_drawn(text, width * height) {
-                return Verdict::Bad(Refusal::BadText);
-            }
-            Verdict::Fine
-        }
+    judge_sides(sides.width, sides.height)?;
+    let cells = sides.width * sides.height;
+    if room < cells {
+        return Err(Refusal::BadRoom);
     }
-}
-
-// A picture of these sides, from what follows the height.
-fn read_drawing(width: usize, height: usize, text: &[u8], codes: &mut [u32]) -> PbmAnswer
-    ensures { Reads (some (record { width = width; height = height; rest = text.now })) codes.old result codes.new }
-{
-    let v = judge_drawing(width, height, text, codes.len());
-    match v {
-        Verdict::Bad(w) => PbmAnswer::Refused(w),
-        Verdict::Fine => {
-            write_pixels(text, codes);
-            PbmAnswer::Done { width, height }
-        }
+    if !is_drawn(text, cells) {
+        return Err(Refusal::BadText);
     }
+    Ok(())
 }
 
 // The sides and the codes of the picture whose text this is: 1 for white, 2 for black.
-pub fn read_pbm(text: &[u8], codes: &mut [u32]) -> PbmAnswer
+pub fn read_pbm(text: &[u8], codes: &mut [u32]) -> Result<Sides, Refusal>
     ensures { ReadsPbm text.now codes.old result codes.new }
 {
-    let sides = read_heading(text);
-    match sides {
-        Sides::Broken => PbmAnswer::Refused(Refusal::BadText),
-        Sides::Read { width, height, end } => read_drawing(width, height, &text[end..], codes),
-    }
+    let heading = read_heading(text).ok_or(Refusal::BadText)?;
+    judge_drawing(heading.sides, heading.rest, codes.len())?;
+    write_pixels(heading.rest, codes);
+    Ok(heading.sides)
 }

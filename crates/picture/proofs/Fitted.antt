@@ -7,10 +7,7 @@ use mathlib.Core.Path.{◌≡◌}
 use Rattle.picture.specs.Calls.{grid_fits}
 use Rattle.rules.proofs.Tests.{both_true}
 
--- the tests of rule 2, one after the other
-pub grid_last : (w h p rc rs cc cs : ℕ) → p ≡ w * h → h ≤ rc → w * h ≤ rs → w ≤ cc → leb (w * h) cs ≡ grid_fits w h p rc rs cc cs
-grid_last w h p rc rs cc cs a b d f = rw (eq-eqb p (w * h) a, le-leb h rc b, le-leb (w * h) rs d, le-leb w cc f)
-
+-- the tests of rule 2, each for itself
 pub record Fitted (w h p rc rs cc cs : ℕ) : Type 0 where
   pub exact : p ≡ w * h
   pub row_counts : h ≤ rc

@@ -1,4 +1,6 @@
 -- What the calls for clues tell of pictures, from their statements alone.
+use Rattle.std.specs.Prelude.{Err, Ok, Result}
+use Rattle.rules.specs.Refusal.{GoodSides, Rule, reply, verdict, side_rules, left, memo_size, stack_size, Verdict}
 use Rattle.picture.proofs.Told.{binary_known, coloured_known}
 use Rattle.clue.proofs.Told.{room_fine, codes_fine}
 use Prim.Native.Nat.{ℕ, ◌+◌, ◌<◌, ◌≤◌, ◌*◌}
@@ -9,7 +11,7 @@ use mathlib.Core.Bool.{Bool, true, false, cond, ◌&&◌}
 use mathlib.Core.List.{List, [], ◌∷◌, map}
 use mathlib.Core.Path.{◌≡◌, refl, sym, ap, ◌∙◌, subst}
 use native.Mathlib.Omega.{arith}
-use Rattle.picture.specs.Calls.{grid_fits, clues_reply, GridLists, binary_clues_rules, coloured_clues_rules, BinaryClues, ColouredClues, card_in, black_card_in}
+use Rattle.picture.specs.Calls.{grid_fits, clues_reply, totals, GridLists, binary_clues_rules, coloured_clues_rules, BinaryClues, ColouredClues, card_in, black_card_in}
 use Rattle.clue.specs.Calls.{room_rules}
 use Rattle.rules.specs.Colour.{Colour}
 use Rattle.rules.proofs.Boards.{place_lt, length_line, get_or_line}
@@ -25,35 +27,32 @@ use Rattle.rules.specs.Card.{clue_of, Straight, row_clues_of, column_clues_of, g
 use Rattle.rules.specs.CardRules.{card_rules}
 use Rattle.rules.specs.Clue.{clue, bad_code_of, read_code, read_binary, black_white, black_clue}
 use Rattle.rules.specs.Placement.{Placement}
-use Rattle.rules.specs.Ranges.{any_of}
-use Rattle.rules.specs.Refusal.{GoodSides, Rule, reply, verdict, side_rules, left, memo_size, stack_size}
+use Rattle.std.specs.List.{list_any}
 use Rattle.rules.specs.declared.LinePosition.{LinePosition}
 use Rattle.rules.specs.declared.LinePosition.TheVariants.{Row, Column}
-use Rattle.rules.specs.declared.Verdict.{Verdict}
-use Rattle.rules.specs.declared.Verdict.TheVariants.{Fine, Bad}
-use Rattle.picture.specs.declared.CluesAnswer.{CluesAnswer}
-use Rattle.picture.specs.declared.CluesAnswer.TheVariants as Clues
+use Rattle.rules.specs.declared.Refusal.{Refusal}
+use Rattle.picture.specs.declared.Totals.{Totals}
 
 -- ---- the lists that a call left
 
 -- the front of a list that a call left is what it wrote
-front : {v : Verdict} (vs out out' : List ℕ) (n : ℕ) → v ≡ Fine → out' ≡ left v vs out → length vs ≡ n → take n out' ≡ vs
+front : {v : Verdict} (vs out out' : List ℕ) (n : ℕ) → v ≡ Ok tt → out' ≡ left v vs out → length vs ≡ n → take n out' ≡ vs
 front vs out out' n e q l = ap (take n) (q ∙ rw e refl) ∙ take_at vs (drop (length vs) out) n l
 
 -- a call that answered with counts refused nothing
-pub done_fine : (v : Verdict) (a b m n : ℕ) → clues_reply (Clues.Done m n) ≡ reply v (a ∷ b ∷ []) → (v ≡ Fine) × (m ≡ a) × (n ≡ b)
-done_fine Fine a b m n e = (refl, cc, cc)
-done_fine (Bad w) a b m n e = let h = ap length e in absurd (omega arith)
+pub done_fine : (v : Verdict) (a b m n : ℕ) → clues_reply (Ok (totals m n)) ≡ reply v (a ∷ b ∷ []) → (v ≡ Ok tt) × (m ≡ a) × (n ≡ b)
+done_fine (Ok _) a b m n e = (refl, cc, cc)
+done_fine (Err w) a b m n e = let h = ap length e in absurd (omega arith)
 
 module _ (f : List ℕ → List Block) (w h m n : ℕ) (b : List ℕ) {rules : List Rule} {rc rs cc cs rc' rs' cc' cs' : List ℕ}
-    (c : GridLists rules (row_clues_of f w h b) (column_clues_of f w h b) rc rs cc cs (Clues.Done m n) rc' rs' cc' cs') where
+    (c : GridLists rules (row_clues_of f w h b) (column_clues_of f w h b) rc rs cc cs (Ok (totals m n)) rc' rs' cc' cs') where
   abbrev rows : List (List Block)
   rows = row_clues_of f w h b
 
   abbrev columns : List (List Block)
   columns = column_clues_of f w h b
 
-  fine : (verdict rules ≡ Fine) × (m ≡ length (gathered sizes_by rows)) × (n ≡ length (gathered sizes_by columns))
+  fine : (verdict rules ≡ Ok tt) × (m ≡ length (gathered sizes_by rows)) × (n ≡ length (gathered sizes_by columns))
   fine = done_fine (verdict rules) (length (gathered sizes_by rows)) (length (gathered sizes_by columns)) m n c.answers
 
   -- the counts and the sizes of the lines, one after the other
@@ -69,8 +68,8 @@ module _ (f : List ℕ → List Block) (w h m n : ℕ) (b : List ℕ) {rules : L
 -- ---- a grid: whatever the blank code, the picture as read is one of the clues that the call left
 
 -- what holds of no code of the picture holds of none of a line
-line_none : (w h : ℕ) (b : List ℕ) → length b ≡ h * w → (f : ℕ → Bool) → any_of f b ≡ false → (l : LinePosition) → On w h l
-    → any_of f (line_of w h b l) ≡ false
+line_none : (w h : ℕ) (b : List ℕ) → length b ≡ h * w → (f : ℕ → Bool) → list_any f b ≡ false → (l : LinePosition) → On w h l
+    → list_any f (line_of w h b l) ≡ false
 line_none w h b size f good l o = any-all f (line_of w h b l) (λ i p. at i (omega (arith, length_line w h b l)))
   where
     at : (i : ℕ) → i < len w h l → f (get_or (line_of w h b l) i 0) ≡ false
@@ -89,7 +88,7 @@ picture_read f w h b k size single placed = record {
 }
 
 -- a line's clue has at most 64 blocks
-line_few : (f : List ℕ → List Block) → ((k : List ℕ) → length (f k) ≤ length k) → (w h : ℕ) (b : List ℕ) → verdict (side_rules w h) ≡ Fine
+line_few : (f : List ℕ → List Block) → ((k : List ℕ) → length (f k) ≤ length k) → (w h : ℕ) (b : List ℕ) → verdict (side_rules w h) ≡ Ok tt
     → (l : LinePosition) → length (f (line_of w h b l)) ≤ 64
 line_few f short w h b q l = omega (arith, short (line_of w h b l), length_line w h b l, low l)
   where
@@ -97,14 +96,14 @@ line_few f short w h b q l = omega (arith, short (line_of w h b l), length_line 
     low (Row y) = (sides_fine w h q).1
     low (Column x) = (sides_fine w h q).3
 
-module _ {e w h m n : ℕ} {b rc rs rt cc cs ct rc' rs' rt' cc' cs' ct' : List ℕ} (c : ColouredClues e w h b rc rs rt cc cs ct (Clues.Done m n) rc' rs' rt' cc' cs' ct') where
+module _ {e w h m n : ℕ} {b rc rs rt cc cs ct rc' rs' rt' cc' cs' ct' : List ℕ} (c : ColouredClues e w h b rc rs rt cc cs ct (Ok (totals m n)) rc' rs' rt' cc' cs' ct') where
   abbrev fits : Bool
   fits = grid_fits w h (length b) (length rc) (length rs) (length cc) (length cs) && (leb (w * h) (length rt) && leb (w * h) (length ct))
 
-  kept : verdict (coloured_clues_rules e w h b rc rs rt cc cs ct) ≡ Fine
+  kept : verdict (coloured_clues_rules e w h b rc rs rt cc cs ct) ≡ Ok tt
   kept = (fine (clue e) w h m n b c.lists).0
 
-  tested : (verdict (side_rules w h) ≡ Fine) × (fits ≡ true) × (bad_code_of e b ≡ false)
+  tested : (verdict (side_rules w h) ≡ Ok tt) × (fits ≡ true) × (bad_code_of e b ≡ false)
   tested = codes_fine (side_rules w h) fits (bad_code_of e b) kept
 
   sized : length b ≡ h * w
@@ -143,18 +142,18 @@ module _ {e w h m n : ℕ} {b rc rs rt cc cs ct rc' rs' rt' cc' cs' ct' : List �
 
   -- lent to a run, with as many cells and enough memory, they break no rule of a card
   pub clues_lent : (cells memo stack : ℕ) → cells ≡ w * h → memo_size ≤ memo → stack_size ≤ stack
-      → verdict (card_rules w h cells (card_in w h m n rc' rs' rt' cc' cs' ct') memo stack) ≡ Fine
+      → verdict (card_rules w h cells (card_in w h m n rc' rs' rt' cc' cs' ct') memo stack) ≡ Ok tt
   clues_lent cells memo stack p q r =
       gathered_fine w h (λ l. clue e (line_of w h b l)) card_back cells memo stack tested.0 p q r
       (λ l o. codes_legal e (line_of w h b l) (line_good l o)) (λ l o. line_few (clue e) (clue_length e) w h b tested.0 l)
 
 -- ---- the same for binary clues, of any codes: every code but the blank one is black
 
-module _ (e w h m n : ℕ) (b : List ℕ) {rc rs cc cs rc' rs' cc' cs' : List ℕ} (c : BinaryClues e w h b rc rs cc cs (Clues.Done m n) rc' rs' cc' cs') where
-  binary_kept : verdict (binary_clues_rules w h b rc rs cc cs) ≡ Fine
+module _ (e w h m n : ℕ) (b : List ℕ) {rc rs cc cs rc' rs' cc' cs' : List ℕ} (c : BinaryClues e w h b rc rs cc cs (Ok (totals m n)) rc' rs' cc' cs') where
+  binary_kept : verdict (binary_clues_rules w h b rc rs cc cs) ≡ Ok tt
   binary_kept = (fine (black_clue e) w h m n b c).0
 
-  binary_sides : verdict (side_rules w h) ≡ Fine
+  binary_sides : verdict (side_rules w h) ≡ Ok tt
   binary_sides = (room_fine (side_rules w h) (grid_fits w h (length b) (length rc) (length rs) (length cc) (length cs)) binary_kept).0
 
   binary_sized : length b ≡ h * w
@@ -177,7 +176,7 @@ module _ (e w h m n : ℕ) (b : List ℕ) {rc rs cc cs rc' rs' cc' cs' : List �
   binary_clues_legal l o = subst (λ (bs : List Block). Legal bs) (sym (binary_clues_back l o)) (black_legal e (line_of w h b l))
 
   pub binary_clues_lent : (cells memo stack : ℕ) → cells ≡ w * h → memo_size ≤ memo → stack_size ≤ stack
-      → verdict (card_rules w h cells (black_card_in w h m n rc' rs' cc' cs') memo stack) ≡ Fine
+      → verdict (card_rules w h cells (black_card_in w h m n rc' rs' cc' cs') memo stack) ≡ Ok tt
   binary_clues_lent cells memo stack p q r =
       gathered_fine w h (λ l. in_black (black_clue e (line_of w h b l))) black_back cells memo stack binary_sides p q r
       (λ l o. subst (λ (bs : List Block). Legal bs) (sym (black_only e (line_of w h b l))) (black_legal e (line_of w h b l)))
@@ -190,23 +189,23 @@ module _ (e w h m n : ℕ) (b : List ℕ) {rc rs cc cs rc' rs' cc' cs' : List �
 
 -- a picture that fits, with room for its clues, breaks no rule
 pub binary_fine : (w h : ℕ) (b rc rs cc cs : List ℕ) → GoodSides w h → Fitted w h (length b) (length rc) (length rs) (length cc) (length cs)
-    → verdict (binary_clues_rules w h b rc rs cc cs) ≡ Fine
+    → verdict (binary_clues_rules w h b rc rs cc cs) ≡ Ok tt
 binary_fine w h b rc rs cc cs g f =
     append_fine (side_rules w h) (room_rules (grid_fits w h (length b) (length rc) (length rs) (length cc) (length cs))) (sides_good w h g)
     ∙ rw (fits_all f)
 
 -- the call is done, and each row and column of the picture as read is a placement of the clue that it left
-pub record OwnClues (e w h : ℕ) (b : List ℕ) (r : CluesAnswer) (rc' rs' cc' cs' : List ℕ) : Type 0 where
+pub record OwnClues (e w h : ℕ) (b : List ℕ) (r : Result Totals Refusal) (rc' rs' cc' cs' : List ℕ) : Type 0 where
   pub rows : ℕ
   pub columns : ℕ
-  pub done : r ≡ Clues.Done rows columns
+  pub done : r ≡ Ok (totals rows columns)
   pub picture : Picture (Straight w h (clue_of (black_card_in w h rows columns rc' rs' cc' cs'))) w h (black_white e b)
 
-pub own_clues : (e w h : ℕ) (b : List ℕ) {rc rs cc cs rc' rs' cc' cs' : List ℕ} {r : CluesAnswer} → GoodSides w h
+pub own_clues : (e w h : ℕ) (b : List ℕ) {rc rs cc cs rc' rs' cc' cs' : List ℕ} {r : Result Totals Refusal} → GoodSides w h
     → Fitted w h (length b) (length rc) (length rs) (length cc) (length cs) → BinaryClues e w h b rc rs cc cs r rc' rs' cc' cs'
     → OwnClues e w h b r rc' rs' cc' cs'
 own_clues e w h b {rc} {rs} {cc} {cs} {rc'} {rs'} {cc'} {cs'} {r} g f c = go r c
   where
-    go : (s : CluesAnswer) → BinaryClues e w h b rc rs cc cs s rc' rs' cc' cs' → OwnClues e w h b s rc' rs' cc' cs'
-    go (Clues.Done m n) k = record { rows = m; columns = n; done = refl; picture = picture_of_binary_clues e w h m n b k }
-    go (Clues.Refused u) k = let q = rw (binary_fine w h b rc rs cc cs g f) at k.answers in let l = ap length q in absurd (omega arith)
+    go : (s : Result Totals Refusal) → BinaryClues e w h b rc rs cc cs s rc' rs' cc' cs' → OwnClues e w h b s rc' rs' cc' cs'
+    go (Ok t) k = record { rows = t.rows; columns = t.columns; done = refl; picture = picture_of_binary_clues e w h t.rows t.columns b k }
+    go (Err u) k = let q = rw (binary_fine w h b rc rs cc cs g f) at k.answers in let l = ap length q in absurd (omega arith)

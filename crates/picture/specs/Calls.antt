@@ -1,12 +1,12 @@
 -- What each public call of this crate promises of a grid of w by h codes: 1, 2, and 9 of colours. e is the blank code.
-use Rattle.std.specs.Prelude.{◌≡◌, Bool, ◌&&◌, List, [], ◌∷◌, ◌++◌, ℕ, ◌*◌, eqb, leb, length, take}
+use Rattle.std.specs.Prelude.{◌≡◌, Bool, ◌&&◌, List, [], ◌∷◌, ◌++◌, ℕ, ◌*◌, eqb, leb, length, take, Result, Ok, Err}
 use Rattle.rules.specs.Block.{Block, sizes_by, colours_by}
 use Rattle.rules.specs.Clue.{clue, bad_code_of, black_clue}
 use Rattle.rules.specs.Card.{Card, card_of, black_card, row_clues_of, column_clues_of, gathered, count_of}
 use Rattle.rules.specs.Refusal.{refusal_number_of, Rule, verdict, side_rules, reply, left}
 use Rattle.clue.specs.Calls.{room_rules, code_rules}
-use Rattle.picture.specs.declared.CluesAnswer.{CluesAnswer}
-use Rattle.picture.specs.declared.CluesAnswer.TheVariants.{Done, Refused}
+use Rattle.rules.specs.declared.Refusal.{Refusal}
+use Rattle.picture.specs.declared.Totals.{Totals}
 
 -- exactly width × height codes; room for one count a line, and for width × height blocks a direction
 abbrev pub grid_fits : ℕ → ℕ → ℕ → ℕ → ℕ → ℕ → ℕ → Bool
@@ -18,14 +18,17 @@ abbrev pub grid_rules : ℕ → ℕ → Bool → Bool → List Rule
 grid_rules w h fits bad = side_rules w h ++ code_rules fits bad
 
 -- the number of an answer, and its values: the blocks written for the rows, and for the columns
-abbrev pub clues_reply : CluesAnswer → List ℕ
-clues_reply (Done rows columns) = 0 ∷ rows ∷ columns ∷ []
-clues_reply (Refused w) = refusal_number_of w ∷ []
+abbrev pub clues_reply : Result Totals Refusal → List ℕ
+clues_reply (Ok t) = 0 ∷ t.rows ∷ t.columns ∷ []
+clues_reply (Err w) = refusal_number_of w ∷ []
+
+abbrev pub totals : ℕ → ℕ → Totals
+totals rows columns = record { rows = rows; columns = columns }
 
 -- In what follows rc, rs and rt are the lists of the rows' counts, sizes and colours, and cc, cs and ct those of the columns.
 
 -- the answer, and the lists of counts and sizes after the call
-pub record GridLists (rules : List Rule) (rows columns : List (List Block)) (rc rs cc cs : List ℕ) (r : CluesAnswer) (rc' rs' cc' cs' : List ℕ) : Type 0 where
+pub record GridLists (rules : List Rule) (rows columns : List (List Block)) (rc rs cc cs : List ℕ) (r : Result Totals Refusal) (rc' rs' cc' cs' : List ℕ) : Type 0 where
   pub answers : clues_reply r ≡ reply (verdict rules) (length (gathered sizes_by rows) ∷ length (gathered sizes_by columns) ∷ [])
   pub row_counts : rc' ≡ left (verdict rules) (gathered count_of rows) rc
   pub row_sizes : rs' ≡ left (verdict rules) (gathered sizes_by rows) rs
@@ -48,10 +51,10 @@ coloured_clues_rules e w h b rc rs rt cc cs ct =
     (bad_code_of e b)
 
 -- the clues of a binary picture, and of a coloured one
-abbrev pub BinaryClues : ℕ → ℕ → ℕ → List ℕ → List ℕ → List ℕ → List ℕ → List ℕ → CluesAnswer → List ℕ → List ℕ → List ℕ → List ℕ → Type 0
+abbrev pub BinaryClues : ℕ → ℕ → ℕ → List ℕ → List ℕ → List ℕ → List ℕ → List ℕ → Result Totals Refusal → List ℕ → List ℕ → List ℕ → List ℕ → Type 0
 BinaryClues e w h b rc rs cc cs = GridLists (binary_clues_rules w h b rc rs cc cs) (row_clues_of (black_clue e) w h b) (column_clues_of (black_clue e) w h b) rc rs cc cs
 
-pub record ColouredClues (e w h : ℕ) (b rc rs rt cc cs ct : List ℕ) (r : CluesAnswer) (rc' rs' rt' cc' cs' ct' : List ℕ) : Type 0 where
+pub record ColouredClues (e w h : ℕ) (b rc rs rt cc cs ct : List ℕ) (r : Result Totals Refusal) (rc' rs' rt' cc' cs' ct' : List ℕ) : Type 0 where
   pub lists : GridLists (coloured_clues_rules e w h b rc rs rt cc cs ct) (row_clues_of (clue e) w h b) (column_clues_of (clue e) w h b) rc rs cc cs r rc' rs' cc' cs'
   pub colours : GridColours (coloured_clues_rules e w h b rc rs rt cc cs ct) (row_clues_of (clue e) w h b) (column_clues_of (clue e) w h b) rt ct rt' ct'
 

@@ -2,8 +2,17 @@
 use Rattle.std.specs.Prelude.{◌≡◌, List, ℕ, ◌*◌, ◌≤◌, length}
 use Rattle.std.proofs.lemmas.List.Edits.{sets}
 use Rattle.rules.specs.Block.{Block, sizes_by, colours_by}
-use Rattle.rules.specs.Card.{gathered, count_of}
+use Rattle.rules.specs.Card.{row_clues_of, column_clues_of, gathered, count_of}
+use Rattle.clue.specs.Steps.{clue_in}
+use Rattle.picture.specs.declared.view.Picture.{Picture}
 use Rattle.loops.specs.Put.{Put}
+
+-- the clues of the rows of a picture, and of its columns, as its codes are taken
+abbrev pub row_clues : Picture → List (List Block)
+row_clues p = row_clues_of (clue_in p.reading) p.width p.height p.codes.now
+
+abbrev pub column_clues : Picture → List (List Block)
+column_clues p = column_clues_of (clue_in p.reading) p.width p.height p.codes.now
 
 pub record GridRoom (w h : ℕ) (rc rs cc cs : List ℕ) : Type 0 where
   pub row_counts : h ≤ length rc

@@ -1,11 +1,13 @@
-// The clues of a binary picture: sizes alone. Every code but the blank one is black, whatever its ink.
+// The clues of a binary picture: sizes alone. Every code but the blank one is black, whatever its ink. The call is not that of multicolor.rt,
+// which is lent six lists for these four, as C has it, and judges the codes.
 ghost use Rattle.picture.specs.Calls.{BinaryClues};
 
-use crate::CluesAnswer;
+use crate::Totals;
 use crate::directions::write_clues;
-use crate::judge::judge_binary_grid;
-use clue::Ink;
-use rules::Verdict;
+use crate::judge::judge_grid;
+use crate::view::Picture;
+use clue::{Ink, Reading};
+use rules::Refusal;
 
 // The clues of a picture of width × height codes.
 pub fn clues_from_solution(
@@ -17,10 +19,10 @@ pub fn clues_from_solution(
     row_sizes: &mut [u32],
     column_counts: &mut [u32],
     column_sizes: &mut [u32],
-) -> CluesAnswer
+) -> Result<Totals, Refusal>
     ensures { BinaryClues blank width height codes.now row_counts.old row_sizes.old column_counts.old column_sizes.old result row_counts.new row_sizes.new column_counts.new column_sizes.new }
 {
-    let v = judge_binary_grid(
+    judge_grid(
         width,
         height,
         codes.len(),
@@ -28,25 +30,16 @@ pub fn clues_from_solution(
         row_sizes.len(),
         column_counts.len(),
         column_sizes.len(),
-    );
-    match v {
-        Verdict::Bad(w) => CluesAnswer::Refused(w),
-        Verdict::Fine => {
-            let n = write_clues(
-                codes,
-                width,
-                height,
-                blank,
-                Ink::Black,
-                row_counts,
-                row_sizes,
-                column_counts,
-                column_sizes,
-            );
-            CluesAnswer::Done {
-                rows: n.rows,
-                columns: n.columns,
-            }
-        }
-    }
+    )?;
+    let reading = Reading {
+        ink: Ink::Black,
+        blank,
+    };
+    let picture = Picture {
+        width,
+        height,
+        codes,
+        reading,
+    };
+    Ok(write_clues(picture, row_counts, row_sizes, column_counts, column_sizes))
 }

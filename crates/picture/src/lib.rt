@@ -5,12 +5,11 @@ pub mod binary;
 mod directions;
 mod judge;
 pub mod multicolor;
+mod view;
 
-use rules::Refusal;
-
-// The answer of a call for the clues of a grid: how many blocks are written for the rows, and for the columns.
+// How many blocks a call wrote for the rows, and for the columns.
 #[derive(Clone, Copy)]
-pub enum CluesAnswer {
-    Done { rows: usize, columns: usize },
-    Refused(Refusal),
+pub struct Totals {
+    pub rows: usize,
+    pub columns: usize,
 }

@@ -1,4 +1,6 @@
 -- The ranges of the call's own answer, by rules: no range is too narrow, and none is wider than it need be.
+use Rattle.std.specs.Prelude.{Ok}
+use Rattle.rules.specs.Refusal.{verdict, roomy, written, left, Verdict}
 use mathlib.Core.Path.{◌≡◌, ap, ◌∙◌}
 use mathlib.Core.Bool.{Bool, ◌&&◌}
 use mathlib.Core.List.{List, map}
@@ -7,10 +9,6 @@ use native.Mathlib.Omega.{arith}
 use lib.ListN.{length, get_or, drop, length-map, get_or-append}
 use Rattle.rules.specs.Block.{Lent, colours_by}
 use Rattle.rules.specs.Ranges.{range_colours, range_start, range_end, RangeOf}
-use Rattle.rules.specs.Refusal.{verdict, roomy, written, left}
-use Rattle.rules.specs.declared.ListAnswer.TheVariants.{Done}
-use Rattle.rules.specs.declared.Verdict.{Verdict}
-use Rattle.rules.specs.declared.Verdict.TheVariants.{Fine}
 use Rattle.rules.proofs.Blocks.{test_legal}
 use Rattle.rules.proofs.Readings.{get_or-map_lt}
 use Rattle.rules.proofs.Replies.{done_count}
@@ -19,17 +17,17 @@ use Rattle.positions.specs.Calls.{range_rules, ColorRanges}
 use Rattle.positions.proofs.Judged.{range_fine}
 
 -- an entry that was written
-entry : {v : Verdict} (vs out out' : List ℕ) (i : ℕ) → v ≡ Fine → out' ≡ left v vs out → i < length vs → get_or out' i 0 ≡ get_or vs i 0
+entry : {v : Verdict} (vs out out' : List ℕ) (i : ℕ) → v ≡ Ok tt → out' ≡ left v vs out → i < length vs → get_or out' i 0 ≡ get_or vs i 0
 entry vs out out' i e q h =
     let p : out' ≡ written vs out = rw e at q in
     ap (λ l. get_or l i 0) p ∙ get_or-append vs (drop (length vs) out) 0 i h
 
 module _ (n : ℕ) (b : Lent) {colours from to colours' from' to' : List ℕ} {m : ℕ}
-    (c : ColorRanges n b colours from to (Done m) colours' from' to') where
+    (c : ColorRanges n b colours from to (Ok m) colours' from' to') where
   abbrev fits : Bool
   fits = roomy b colours && (roomy b from && roomy b to)
 
-  done : (verdict (range_rules n b fits) ≡ Fine) × (m ≡ length (range_colours b.list))
+  done : (verdict (range_rules n b fits) ≡ Ok tt) × (m ≡ length (range_colours b.list))
   done = done_count (verdict (range_rules n b fits)) c.answers
 
   -- each range that is told begins and ends with cells that some placements give its colour, and no placement gives it to a cell outside

@@ -4,18 +4,22 @@ use mathlib.Core.Bool.{Bool, true, false, cond}
 use mathlib.Core.List.{List, [], ◌∷◌, ◌++◌, map}
 use Prim.Native.Nat.{ℕ, zero, suc, ◌+◌, ◌≤◌, ◌<◌}
 use native.Mathlib.Numerals.{add-one}
-use native.Mathlib.Nat.{add-zero, zero-add, add-suc}
+use native.Mathlib.Nat.{add-zero, zero-add}
 use native.Mathlib.Omega.{arith}
 use borrow.Author.Tests.{eq-eqb, ne_eqb}
 use lib.Dec.{eqb}
 use lib.ListN.{length, take, drop, get_or, drop_of_length-le, replicate}
 use lib.Seq.{drop-cons, take-suc, sets, length-sets, get_or-drop}
-use Rattle.rules.proofs.Tests.{cond_false}
+use Rattle.std.proofs.lemmas.Bool.{or_parts}
+use mathlib.Core.Logic.{◌≢◌}
+use Rattle.std.specs.Prelude.{Option, None, Some}
+use Rattle.std.specs.Option.{MatchOption, unwrap_or}
 use Rattle.rules.proofs.Blocks.{colours_back, length_blocks}
 use Rattle.rules.specs.Block.{blocks}
-use Rattle.rules.specs.Ranges.{any_of, new_of, first_of, last_of, range_start, range_end}
+use Rattle.std.specs.List.{list_any}
+use Rattle.rules.specs.Ranges.{new_of, first_of, last_of, range_start, range_end}
 use Rattle.rules.specs.Packing.{minimal_space, sums_from, starts_from}
-use Rattle.block.specs.Steps.{edges_from, Paired}
+use Rattle.block.specs.Steps.{Packable, edges_from}
 use Rattle.positions.specs.Steps.{start_in, end_in, Rangeable, Ranged, RangesFit, RangesOf}
 use Rattle.loops.specs.Put.{Put}
 use Rattle.loops.proofs.Going.{written_sets}
@@ -24,10 +28,10 @@ use Rattle.block.proofs.Packed.{length_edges, edges_sums, edges_starts, sums_low
 -- ---- each number once
 
 module _ (l : List ℕ) (i : ℕ) (h : i < length l) where
-  pub new_seen : any_of (λ d. eqb d (get_or l i 0)) (take i l) ≡ true → new_of (take i l) (drop i l) ≡ new_of (take (i + 1) l) (drop (i + 1) l)
+  pub new_seen : list_any (λ d. eqb d (get_or l i 0)) (take i l) ≡ true → new_of (take i l) (drop i l) ≡ new_of (take (i + 1) l) (drop (i + 1) l)
   new_seen e = rw (add-one i, take-suc l i 0 h, drop-cons l i 0 h, e)
 
-  pub new_fresh : any_of (λ d. eqb d (get_or l i 0)) (take i l) ≡ false
+  pub new_fresh : list_any (λ d. eqb d (get_or l i 0)) (take i l) ≡ false
       → new_of (take i l) (drop i l) ≡ get_or l i 0 ∷ new_of (take (i + 1) l) (drop (i + 1) l)
   new_fresh e = rw (add-one i, take-suc l i 0 h, drop-cons l i 0 h, e)
 
@@ -36,39 +40,44 @@ new_end l i h = rw (drop_of_length-le l h)
 
 -- ---- the first and the last index of a number that is met at i for the first time
 
-first : (c : ℕ) (l : List ℕ) (i : ℕ) → i < length l → get_or l i 0 ≡ c → any_of (λ d. eqb d c) (take i l) ≡ false → first_of c l ≡ i
+first : (c : ℕ) (l : List ℕ) (i : ℕ) → i < length l → get_or l i 0 ≡ c → list_any (λ d. eqb d c) (take i l) ≡ false → first_of c l ≡ i
 first c [] i h e q = absurd (omega arith)
 first c (d ∷ l) zero h e q = rw (eq-eqb d c e)
 first c (d ∷ l) (suc i) h e q =
-    let p = cond_false (eqb d c) (any_of (λ x. eqb x c) (take i l)) q in
+    let p = or_parts (eqb d c) (list_any (λ x. eqb x c) (take i l)) q in
     rw p.0 (ap suc (first c l i (omega arith) e p.1))
 
-pub first_here : (l : List ℕ) (i : ℕ) → i < length l → any_of (λ d. eqb d (get_or l i 0)) (take i l) ≡ false → first_of (get_or l i 0) l ≡ i
+pub first_here : (l : List ℕ) (i : ℕ) → i < length l → list_any (λ d. eqb d (get_or l i 0)) (take i l) ≡ false → first_of (get_or l i 0) l ≡ i
 first_here l i h q = first (get_or l i 0) l i h refl q
 
-last : (c k j : ℕ) (l : List ℕ) (i : ℕ) → i < length l → get_or l i 0 ≡ c → any_of (λ d. eqb d c) (take i l) ≡ false
-    → last_of c k j l ≡ last_of c (j + i) (suc (j + i)) (drop (suc i) l)
-last c k j [] i h e q = absurd (omega arith)
-last c k j (d ∷ l) zero h e q = rw (eq-eqb d c e, add-zero j)
-last c k j (d ∷ l) (suc i) h e q =
-    let p = cond_false (eqb d c) (any_of (λ x. eqb x c) (take i l)) q in
-    rw (p.0, add-suc j i) (last c k (suc j) l i (omega arith) e p.1 ∙ ap (λ n. last_of c n (suc n) (drop (suc i) l)) (omega arith))
+-- the last index of a number
+last_none : (c k j : ℕ) (l : List ℕ) → ((n : ℕ) → n < length l → get_or l n 0 ≢ c) → last_of c k j l ≡ k
+last_none c k j [] f = refl
+last_none c k j (d ∷ l) f = rw (ne_eqb d c (f 0 (omega arith))) (last_none c k (suc j) l (λ n h. f (suc n) (omega arith)))
 
-pub last_here : (l : List ℕ) (i : ℕ) → i < length l → any_of (λ d. eqb d (get_or l i 0)) (take i l) ≡ false
-    → last_of (get_or l i 0) 0 0 l ≡ last_of (get_or l i 0) i (i + 1) (drop (i + 1) l)
-last_here l i h q = last (get_or l i 0) 0 0 l i h refl q ∙ rw (zero-add i, add-one i)
+last_some : (c k j : ℕ) (l : List ℕ) (i : ℕ) → i < length l → get_or l i 0 ≡ c → ((n : ℕ) → i + 1 ≤ n → n < length l → get_or l n 0 ≢ c)
+    → last_of c k j l ≡ j + i
+last_some c k j [] i h e f = absurd (omega arith)
+last_some c k j (d ∷ l) zero h e f = rw (eq-eqb d c e, add-zero j) (last_none c j (suc j) l (λ n m. f (suc n) (omega arith) (omega arith)))
+last_some c k j (d ∷ l) (suc i) h e f =
+    last_some c (cond (eqb d c) j k) (suc j) l i (omega arith) e (λ n m o. f (suc n) (omega arith) (omega arith)) ∙ omega arith
 
-module _ (c k : ℕ) (l : List ℕ) (i : ℕ) where
-  pub last_same : i < length l → get_or l i 0 ≡ c → last_of c i (i + 1) (drop (i + 1) l) ≡ last_of c k i (drop i l)
-  last_same h e =
-      rw (add-one i, drop-cons l i 0 h) (sym (ap (λ (t : Bool). last_of c (cond t i k) (suc i) (drop (suc i) l)) (eq-eqb (get_or l i 0) c e)))
+-- what a search from the back finds
+pub last_found : (c : ℕ) (l : List ℕ) (r : Option ℕ)
+    → MatchOption r ((n : ℕ) → n < length l → get_or l n 0 ≢ c)
+    (λ i. (i < length l) × (get_or l i 0 ≡ c) × ((n : ℕ) → i + 1 ≤ n → n < length l → get_or l n 0 ≢ c))
+    → unwrap_or r 0 ≡ last_of c 0 0 l
+last_found c l None f = sym (last_none c 0 0 l f)
+last_found c l (Some i) f = sym (last_some c 0 0 l i f.0 f.1 f.2 ∙ zero-add i)
 
-  pub last_other : i < length l → (get_or l i 0 ≡ c → ⊥) → last_of c k (i + 1) (drop (i + 1) l) ≡ last_of c k i (drop i l)
-  last_other h e =
-      rw (add-one i, drop-cons l i 0 h) (sym (ap (λ (t : Bool). last_of c (cond t i k) (suc i) (drop (suc i) l)) (ne_eqb (get_or l i 0) c e)))
-
-  pub last_end : length l ≤ i → last_of c k i (drop i l) ≡ k
-  last_end h = rw (drop_of_length-le l h)
+pub last_low : (c k j : ℕ) (l : List ℕ) → k < j + length l → last_of c k j l < j + length l
+last_low c k j [] h = h
+last_low c k j (d ∷ l) h = go (eqb d c) (λ m o. last_low c m (suc j) l o)
+  where
+    go : (t : Bool) → ((m : ℕ) → m < suc j + length l → last_of c m (suc j) l < suc j + length l)
+        → last_of c (cond t j k) (suc j) l < j + suc (length l)
+    go true f = omega (arith, f j (omega arith))
+    go false f = omega (arith, f k (omega arith))
 
 -- ---- starts and sums in lists of 64
 
@@ -92,65 +101,66 @@ padded vs k h =
     ap (λ l. get_or l k 0) (written_sets vs (replicate 64 0) h)
     ∙ after vs (drop (length vs) (replicate 64 0)) k (λ j. get_or-drop (length vs) (replicate 64 0) j 0 ∙ zeros_at 64 (length vs + j))
 
-module _ (ns cs zs zu starts sums : List ℕ) (p : Paired ns cs) (f : zs ≡ replicate 64 0) (l : zu ≡ replicate 64 0)
-    (e : starts ≡ sets zs 0 (edges_from false 0 (blocks ns cs))) (q : sums ≡ sets zu 0 (edges_from true 0 (blocks ns cs))) where
+module _ {slack : ℕ} {ns cs ids from to : List ℕ} (p : RangesFit ns cs slack ids from to) where
   few : length (blocks ns cs) ≤ 64
   few = omega (arith, length_blocks ns cs p.equal, p.few)
 
-  first_at : (k : ℕ) → get_or starts k 0 ≡ get_or (starts_from 0 (blocks ns cs)) k 0
-  first_at k =
-      ap (λ x. get_or x k 0) (e ∙ ap (λ z. sets z 0 (edges_from false 0 (blocks ns cs))) f)
-      ∙ padded (edges_from false 0 (blocks ns cs)) k (omega (arith, few, length_edges false 0 (blocks ns cs)))
-      ∙ ap (λ x. get_or x k 0) (edges_starts 0 (blocks ns cs))
+  pub zeros_room : Packable (blocks ns cs) (replicate 64 0)
+  zeros_room = record { few = few; room = few }
 
-  last_at : (k : ℕ) → get_or sums k 0 ≡ get_or (sums_from 0 (blocks ns cs)) k 0
-  last_at k =
-      ap (λ x. get_or x k 0) (q ∙ ap (λ z. sets z 0 (edges_from true 0 (blocks ns cs))) l)
-      ∙ padded (edges_from true 0 (blocks ns cs)) k (omega (arith, few, length_edges true 0 (blocks ns cs)))
-      ∙ ap (λ x. get_or x k 0) (edges_sums 0 (blocks ns cs))
+  module _ {starts sums : List ℕ} (e : starts ≡ sets (replicate 64 0) 0 (edges_from (λ start end. start) 0 (blocks ns cs)))
+      (q : sums ≡ sets (replicate 64 0) 0 (edges_from (λ start end. end) 0 (blocks ns cs))) where
+    first_at : (k : ℕ) → get_or starts k 0 ≡ get_or (starts_from 0 (blocks ns cs)) k 0
+    first_at k =
+        ap (λ x. get_or x k 0) e
+        ∙ padded (edges_from (λ start end. start) 0 (blocks ns cs)) k (omega (arith, few, length_edges (λ start end. start) 0 (blocks ns cs)))
+        ∙ ap (λ x. get_or x k 0) (edges_starts 0 (blocks ns cs))
 
-  long : (z v : List ℕ) → z ≡ replicate 64 0 → length (sets z 0 v) ≡ 64
-  long z v y = length-sets z 0 v ∙ ap length y
+    last_at : (k : ℕ) → get_or sums k 0 ≡ get_or (sums_from 0 (blocks ns cs)) k 0
+    last_at k =
+        ap (λ x. get_or x k 0) q
+        ∙ padded (edges_from (λ start end. end) 0 (blocks ns cs)) k (omega (arith, few, length_edges (λ start end. end) 0 (blocks ns cs)))
+        ∙ ap (λ x. get_or x k 0) (edges_sums 0 (blocks ns cs))
 
-  pub ranges_need : {slack : ℕ} {ids from to : List ℕ} → RangesFit ns cs slack ids from to → Rangeable cs starts sums slack ids from to
-  ranges_need {slack} r = record {
-    all_starts = omega (arith, p.equal, p.few, ap length e, long zs (edges_from false 0 (blocks ns cs)) f);
-    all_sums = omega (arith, p.equal, p.few, ap length q, long zu (edges_from true 0 (blocks ns cs)) l);
-    low = λ k. omega (arith, last_at k, sums_low 0 (blocks ns cs) k, r.low);
-    ids_room = r.ids_room;
-    from_room = r.from_room;
-    to_room = r.to_room;
-  }
+    pub ranges_need : Rangeable cs starts sums slack ids from to
+    ranges_need = record {
+      all_starts = omega (arith, p.equal, p.few, ap length e, length-sets (replicate 64 0) 0 (edges_from (λ start end. start) 0 (blocks ns cs)));
+      all_sums = omega (arith, p.equal, p.few, ap length q, length-sets (replicate 64 0) 0 (edges_from (λ start end. end) 0 (blocks ns cs)));
+      low = λ k. omega (arith, last_at k, sums_low 0 (blocks ns cs) k, p.low);
+      ids_room = p.ids_room;
+      from_room = p.from_room;
+      to_room = p.to_room;
+    }
 
-  start_same : (c : ℕ) → start_in cs starts c ≡ range_start (blocks ns cs) c
-  start_same c = first_at (first_of c cs) ∙ ap (λ x. get_or (starts_from 0 (blocks ns cs)) (first_of c x) 0) (sym (colours_back ns cs p.equal))
+    start_same : (c : ℕ) → start_in cs starts c ≡ range_start (blocks ns cs) c
+    start_same c = first_at (first_of c cs) ∙ ap (λ x. get_or (starts_from 0 (blocks ns cs)) (first_of c x) 0) (sym (colours_back ns cs p.equal))
 
-  end_same : (slack c : ℕ) → end_in cs sums slack c ≡ range_end (blocks ns cs) (minimal_space (blocks ns cs) + slack) c
-  end_same slack c =
-      ap₂ (λ x y. x + y)
-      (last_at (last_of c 0 0 cs) ∙ ap (λ x. get_or (sums_from 0 (blocks ns cs)) (last_of c 0 0 x) 0) (sym (colours_back ns cs p.equal)))
-      (omega arith)
+    end_same : (c : ℕ) → end_in cs sums slack c ≡ range_end (blocks ns cs) (minimal_space (blocks ns cs) + slack) c
+    end_same c =
+        ap₂ (λ x y. x + y)
+        (last_at (last_of c 0 0 cs) ∙ ap (λ x. get_or (sums_from 0 (blocks ns cs)) (last_of c 0 0 x) 0) (sym (colours_back ns cs p.equal)))
+        (omega arith)
 
-  pub ranges_of : {slack : ℕ} {ids from to ids' from' to' : List ℕ} {r : ℕ} → Ranged cs starts sums slack ids from to r ids' from' to'
-      → RangesOf (blocks ns cs) slack ids from to r ids' from' to'
-  ranges_of {slack} {ids} {from} {to} {ids'} {r = r} t =
-      let cc' = sym (colours_back ns cs p.equal) in
-      let bs = blocks ns cs in
-      record {
-        colour_list = subst (λ (x : List ℕ). Put ids 0 (new_of [] x) r ids') cc' t.colour_list;
-        from_list =
-            t.from_list
-            ∙ ap (λ x. sets from 0 x)
-            (map_same (start_in cs starts) (range_start bs) start_same (new_of [] cs) ∙ ap (λ x. map (range_start bs) (new_of [] x)) cc');
-        to_list =
-            t.to_list
-            ∙ ap (λ x. sets to 0 x) (map_same (end_in cs sums slack) (range_end bs (minimal_space bs + slack)) (end_same slack) (new_of [] cs)
-            ∙ ap (λ x. map (range_end bs (minimal_space bs + slack)) (new_of [] x)) cc');
-      }
+    pub ranges_of : {ids' from' to' : List ℕ} {r : ℕ} → Ranged cs starts sums slack ids from to r ids' from' to'
+        → RangesOf (blocks ns cs) slack ids from to r ids' from' to'
+    ranges_of {ids'} {r = r} t =
+        let cc' = sym (colours_back ns cs p.equal) in
+        let bs = blocks ns cs in
+        record {
+          colour_list = subst (λ (x : List ℕ). Put ids 0 (new_of [] x) r ids') cc' t.colour_list;
+          from_list =
+              t.from_list
+              ∙ ap (λ x. sets from 0 x)
+              (map_same (start_in cs starts) (range_start bs) start_same (new_of [] cs) ∙ ap (λ x. map (range_start bs) (new_of [] x)) cc');
+          to_list =
+              t.to_list
+              ∙ ap (λ x. sets to 0 x) (map_same (end_in cs sums slack) (range_end bs (minimal_space bs + slack)) end_same (new_of [] cs)
+              ∙ ap (λ x. map (range_end bs (minimal_space bs + slack)) (new_of [] x)) cc');
+        }
 
 pub length_new : (seen l : List ℕ) → length (new_of seen l) ≤ length l
 length_new seen [] = omega arith
-length_new seen (c ∷ l) = go (any_of (λ d. eqb d c) seen) (length_new (seen ++ (c ∷ [])) l)
+length_new seen (c ∷ l) = go (list_any (λ d. eqb d c) seen) (length_new (seen ++ (c ∷ [])) l)
   where
     go : (t : Bool) → length (new_of (seen ++ (c ∷ [])) l) ≤ length l → length (cond t [] (c ∷ []) ++ new_of (seen ++ (c ∷ [])) l) ≤ suc (length l)
     go true h = omega arith

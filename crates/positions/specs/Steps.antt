@@ -1,27 +1,19 @@
 -- What the private functions say. A reader of the public calls needs none of it.
-use Rattle.std.specs.Prelude.{◌≡◌, List, [], map, ℕ, ◌+◌, ◌≤◌, ◌<◌, ◌^◌, length, get_or, drop}
+use Rattle.std.specs.Prelude.{◌≡◌, List, [], map, ℕ, ◌+◌, ◌≤◌, ◌<◌, ◌^◌, length, get_or, Err, Ok, Result}
+use Rattle.rules.specs.Refusal.{Verdict}
 use Rattle.std.proofs.lemmas.List.Edits.{sets}
 use Rattle.rules.specs.Block.{Block, blocks}
 use Rattle.rules.specs.Packing.{minimal_space}
 use Rattle.rules.specs.Ranges.{new_of, first_of, last_of, range_colours, range_start, range_end}
-use Rattle.rules.specs.declared.Verdict.{Verdict}
-use Rattle.rules.specs.declared.Verdict.TheVariants.{Fine, Bad}
+use Rattle.rules.specs.declared.Refusal.{Refusal}
 use Rattle.loops.specs.Put.{Put}
-use Rattle.block.specs.Steps.{Paired}
-use Rattle.positions.specs.declared.Space.{Space}
-use Rattle.positions.specs.declared.Space.TheVariants.{Slack, Tight}
 
 -- a verdict with the number that is told where no rule is broken
-abbrev pub space_of : Verdict → ℕ → Space
-space_of Fine n = Slack n
-space_of (Bad w) n = Tight w
+abbrev pub space_of : Verdict → ℕ → Result ℕ Refusal
+space_of (Ok _) n = Ok n
+space_of (Err w) n = Err w
 
 -- ---- ranges
-
--- the last index with the colour at `at`
-pub record LastIndex (colours : List ℕ) (at r : ℕ) : Type 0 where
-  pub within : r < length colours
-  pub is : r ≡ last_of (get_or colours at 0) at (at + 1) (drop (at + 1) colours)
 
 pub record Rangeable (colours starts sums : List ℕ) (slack : ℕ) (ids from to : List ℕ) : Type 0 where
   pub all_starts : length colours ≤ length starts
@@ -43,7 +35,8 @@ pub record Ranged (colours starts sums : List ℕ) (slack : ℕ) (ids from to : 
   pub to_list : to' ≡ sets to 0 (map (end_in colours sums slack) (new_of [] colours))
 
 pub record RangesFit (sizes colours : List ℕ) (slack : ℕ) (ids from to : List ℕ) : Type 0 where
-  pub paired : Paired sizes colours
+  pub equal : length sizes ≡ length colours
+  pub few : length sizes ≤ 64
   pub low : minimal_space (blocks sizes colours) + slack ≤ 64
   pub ids_room : length colours ≤ length ids
   pub from_room : length colours ≤ length from

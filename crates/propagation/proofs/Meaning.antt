@@ -1,5 +1,7 @@
 -- The order rules and demand 3 of the calls' own answers, what follows, and the bounds of the counts: for both kinds of cell, whose boards are read
 -- as sets.
+use Rattle.std.specs.Prelude.{Err, Ok}
+use Rattle.rules.specs.Refusal.{Rule, verdict, written, Verdict}
 use mathlib.Core.Path.{◌≡◌, refl, sym, ap, ◌∙◌, subst}
 use mathlib.Core.Logic.{◌⊎◌, inl, inr, ⊎_elim, ◌↔◌}
 use mathlib.Core.List.{List, [], map, Memᴰ}
@@ -11,13 +13,10 @@ use Rattle.rules.specs.Answer.{Proper, Within}
 use Rattle.rules.specs.Binary.{set_by, cell_of}
 use Rattle.rules.specs.Board.{On, Picture, Widest, Unsettled}
 use Rattle.rules.specs.Card.{Card, clue_of, solve_straight}
-use Rattle.rules.specs.Refusal.{Rule, verdict, written}
 use Rattle.rules.specs.Run.{room, Outcome, done, refused, Runs, board_of, report_of, solved_of, Ends, Halts, Alike}
 use Rattle.rules.specs.declared.LinePosition.{LinePosition}
 use Rattle.rules.specs.declared.ColumnIndex.{ColumnIndex}
 use Rattle.rules.specs.declared.RowIndex.{RowIndex}
-use Rattle.rules.specs.declared.Verdict.{Verdict}
-use Rattle.rules.specs.declared.Verdict.TheVariants.{Fine, Bad}
 use Rattle.rules.proofs.Answers.{within_trans}
 use Rattle.rules.proofs.Binaries.{sets_back, sets_small, sets_some}
 use Rattle.rules.proofs.Cards.{straight_right, straight_full, straight_point}
@@ -30,11 +29,12 @@ use Rattle.card.proofs.Clued.{clue_legal}
 use Rattle.run.specs.declared.Start.{Start}
 use Rattle.run.specs.declared.Start.TheVariants.{Full, Point}
 use Rattle.propagation.specs.Answered.{Answered, coloured, binary, Passed, Placed, OthersStable, Fit, Halted}
-use Rattle.propagation.specs.Calls.{run_rules, binary_run_rules, run_reply, Ran}
+use Rattle.propagation.specs.Calls.{run_rules, binary_run_rules, run_reply, Ran, set_cells, binary_cells}
 use Rattle.run.specs.Ends.{Reply, reply_to, end_of, end_told, start_stack, start_count}
 use Rattle.run.specs.Steps.{Judged}
 use Rattle.grid.proofs.Rows.{sized}
-use Rattle.propagation.proofs.Told.{judged, judged_binary, cells_small}
+use Rattle.rules.proofs.Verdicts.{cells_fine}
+use Rattle.propagation.proofs.Told.{judged_in, cells_kept}
 use Rattle.run.proofs.Started.{proper, spent, end_runs, left_within, left_filled, end_halts}
 
 -- ---- what a call that passed the checks says of the run
@@ -48,10 +48,10 @@ record Ending (w h : ℕ) (s : Start) (c : Card) (b₀ : List ℕ) (t : Reply) (
   board : b ≡ board_of (end_of w h s c b₀)
   reports : report' ≡ written (report_of (end_of w h s c b₀)) report
 
-passed_fine : (v : Verdict) (o : Outcome) (t : Reply) → Passed t → t ≡ run_reply v o → v ≡ Fine
-passed_fine Fine o t p e = refl
-passed_fine (Bad w) o t (inl p) e = absurd ((by_checking w).0 (sym (ap (λ r. r.number) e) ∙ p))
-passed_fine (Bad w) o t (inr p) e = absurd ((by_checking w).1 (sym (ap (λ r. r.number) e) ∙ p))
+passed_fine : (v : Verdict) (o : Outcome) (t : Reply) → Passed t → t ≡ run_reply v o → v ≡ Ok tt
+passed_fine (Ok _) o t p e = refl
+passed_fine (Err w) o t (inl p) e = absurd ((by_checking w).0 (sym (ap (λ r. r.number) e) ∙ p))
+passed_fine (Err w) o t (inr p) e = absurd ((by_checking w).1 (sym (ap (λ r. r.number) e) ∙ p))
 
 -- the board of sets that a judged run leaves on binary cells is read back from its cells
 read_back : {w h : ℕ} {s : Start} {c : Card} {report memo stack : List ℕ} (grid : List ℕ) → Judged w h s c (map set_by grid) report memo stack
@@ -74,7 +74,7 @@ ending {w} {h} {s} {c} {t = t} (coloured {grid = grid} {report = report} {memo =
       report = report;
       memo = memo;
       stack = stack;
-      was = judged w h s c grid report memo stack e;
+      was = judged_in w h s c grid report memo stack set_cells e;
       tells = rw e at a.tells;
       board = rw e at a.leaves;
       reports = rw e at a.reports;
@@ -83,14 +83,14 @@ ending {w} {h} {s} {c} {t = t} (binary {grid = grid} {report = report} {memo = m
     let e =
     passed_fine (verdict (binary_run_rules w h s c grid (length report) (length memo) (length stack))) (end_of w h s c (map set_by grid)) t p
     a.tells in
-    let j = judged_binary w h s c grid report memo stack e in
+    let j = judged_in w h s c grid report memo stack binary_cells e in
     record {
       report = report;
       memo = memo;
       stack = stack;
       was = j;
       tells = rw e at a.tells;
-      board = ap (map set_by) (rw e at a.leaves) ∙ read_back grid j (cells_small w h s c grid report memo stack e);
+      board = ap (map set_by) (rw e at a.leaves) ∙ read_back grid j (cells_fine grid (cells_kept w h s c grid report memo stack binary_cells e));
       reports = rw e at a.reports;
     }
 
@@ -101,7 +101,7 @@ replied (refused l b r k) = inr refl
 
 module _ {rules : List Rule} {o : Outcome} {board grid report memo stack : List ℕ} {t : Reply} {grid' report' memo' stack' : List ℕ}
     (a : Ran rules o board grid report memo stack t grid' report' memo' stack') where
-  pub fine_passed : verdict rules ≡ Fine → Passed t
+  pub fine_passed : verdict rules ≡ Ok tt → Passed t
   fine_passed e = subst Passed (sym (rw e at a.tells)) (replied o)
 
   -- one that did not pass them left the board as it was
@@ -109,8 +109,8 @@ module _ {rules : List Rule} {o : Outcome} {board grid report memo stack : List 
   ran_passed = go (verdict rules) refl
     where
       go : (v : Verdict) → verdict rules ≡ v → Passed t ⊎ (grid' ≡ grid)
-      go Fine e = inl (fine_passed e)
-      go (Bad w) e = inr (rw e at a.leaves)
+      go (Ok _) e = inl (fine_passed e)
+      go (Err w) e = inr (rw e at a.leaves)
 
 passed_or_kept : {w h : ℕ} {s : Start} {c : Card} {b₀ r₀ : List ℕ} {t : Reply} {b r : List ℕ} → Answered w h s c b₀ r₀ t b r → Passed t ⊎ (b ≡ b₀)
 passed_or_kept (coloured a) = ran_passed a

@@ -1,185 +1,62 @@
 // Runs on a grid of binary cells, with a card of sizes. The grid is turned into sets where it lies, and back.
-ghost use Rattle.std.specs.Prelude.{◌≡◌, map};
-ghost use Rattle.rules.specs.Binary.{set_by, cell_of};
-ghost use Rattle.rules.specs.Card.{black_card};
-ghost use Rattle.run.specs.Ends.{reply_by, end_of};
-ghost use Rattle.propagation.specs.Calls.{RunsBinary};
-ghost use Rattle.propagation.specs.Steps.{Blackened, EndedBinary};
+ghost use Rattle.card.specs.Steps.{lent_black_card};
+ghost use Rattle.propagation.specs.Calls.{binary_cells};
 
-use crate::judge::judge_binary;
-use line::binary::{cell_of, set_of};
-use rules::{ColumnIndex, RowIndex, Verdict};
+use crate::LentCard;
+use card::judge::judge_black_card;
+use card::parts::{BlackCard, Card};
+use line::binary::{judge_cells, set_of, to_cells, to_sets};
+use rules::Refusal;
 use run::jobs::run_judged;
-use run::{RunAnswer, Start};
+use run::{Progress, RunError, Start};
 
-fn to_sets(grid: &mut [u32])
-    ensures { grid.new ≡ map set_by grid.old }
-{
-    let mut i = 0;
-    while i < grid.len() {
-        grid[i] = set_of(grid[i]);
-        i += 1;
+impl<'a> LentCard for BlackCard<'a> {
+    ghost lent = { lent_black_card };
+
+    ghost kind = { binary_cells };
+
+    fn judge(
+        &self,
+        width: usize,
+        height: usize,
+        cells: usize,
+        memo: usize,
+        stack: usize,
+    ) -> Result<(), Refusal> {
+        judge_black_card(width, height, cells, *self, memo, stack)
     }
-}
 
-fn to_cells(grid: &mut [u32])
-    ensures { grid.new ≡ map cell_of grid.old }
-{
-    let mut i = 0;
-    while i < grid.len() {
-        grid[i] = cell_of(grid[i]);
-        i += 1;
+    fn judge_cells(&self, grid: &[u32]) -> Result<(), Refusal> {
+        judge_cells(grid)
     }
-}
 
-// The run of what was judged, with a black colour for each block.
-fn run_black<'a, 'b>(
-    width: usize,
-    height: usize,
-    start: Start,
-    grid: &mut [u32],
-    row_counts: &[u32],
-    row_sizes: &'a [u32],
-    column_counts: &[u32],
-    column_sizes: &'a [u32],
-    colours: &'b [u32],
-    report: &mut [u32],
-    memo: &mut [u8],
-    stack: &mut [u32],
-) -> RunAnswer
-    requires { Blackened width height start (black_card row_counts.now row_sizes.now column_counts.now column_sizes.now) colours.now grid.old report.old memo.old stack.old }
-    ensures { EndedBinary (end_of width height start (black_card row_counts.now row_sizes.now column_counts.now column_sizes.now) (map set_by grid.old)) result grid.new report.old report.new }
-{
-    to_sets(grid);
-    let rows = row_sizes.len();
-    let columns = column_sizes.len();
-    let answer = run_judged(
-        width,
-        height,
-        start,
-        grid,
-        row_counts,
-        row_sizes,
-        &colours[..rows],
-        column_counts,
-        column_sizes,
-        &colours[..columns],
-        report,
-        memo,
-        stack,
-    );
-    to_cells(grid);
-    answer
-}
-
-fn run_from<'a>(
-    width: usize,
-    height: usize,
-    start: Start,
-    grid: &mut [u32],
-    row_counts: &[u32],
-    row_sizes: &'a [u32],
-    column_counts: &[u32],
-    column_sizes: &'a [u32],
-    report: &mut [u32],
-    memo: &mut [u8],
-    stack: &mut [u32],
-) -> RunAnswer
-    ensures { RunsBinary width height start (black_card row_counts.now row_sizes.now column_counts.now column_sizes.now) grid.old report.old memo.old stack.old (reply_by result) grid.new report.new memo.new stack.new }
-{
-    let v = judge_binary(
-        width,
-        height,
-        start,
-        &grid[..],
-        row_counts,
-        row_sizes,
-        column_counts,
-        column_sizes,
-        report.len(),
-        memo.len(),
-        stack.len(),
-    );
-    match v {
-        Verdict::Bad(w) => RunAnswer::Refused(w),
-        Verdict::Fine => {
-            let colours = [2u32; 4096];
-            run_black(
-                width,
-                height,
-                start,
-                grid,
-                row_counts,
-                row_sizes,
-                column_counts,
-                column_sizes,
-                &colours,
-                report,
-                memo,
-                stack,
-            )
-        }
+    fn set_of(&self, cell: u32) -> u32 {
+        set_of(cell)
     }
-}
 
-// A full run: all lines, the farthest from the middle first.
-pub fn run<'a>(
-    width: usize,
-    height: usize,
-    grid: &mut [u32],
-    row_counts: &[u32],
-    row_sizes: &'a [u32],
-    column_counts: &[u32],
-    column_sizes: &'a [u32],
-    report: &mut [u32],
-    memo: &mut [u8],
-    stack: &mut [u32],
-) -> RunAnswer
-    ensures { RunsBinary width height Start.Full (black_card row_counts.now row_sizes.now column_counts.now column_sizes.now) grid.old report.old memo.old stack.old (reply_by result) grid.new report.new memo.new stack.new }
-{
-    run_from(
-        width,
-        height,
-        Start::Full,
-        grid,
-        row_counts,
-        row_sizes,
-        column_counts,
-        column_sizes,
-        report,
-        memo,
-        stack,
-    )
-}
-
-// A run from a point: its row, its column, and what follows from them.
-pub fn run_point<'a>(
-    width: usize,
-    height: usize,
-    x: ColumnIndex,
-    y: RowIndex,
-    grid: &mut [u32],
-    row_counts: &[u32],
-    row_sizes: &'a [u32],
-    column_counts: &[u32],
-    column_sizes: &'a [u32],
-    report: &mut [u32],
-    memo: &mut [u8],
-    stack: &mut [u32],
-) -> RunAnswer
-    ensures { RunsBinary width height (Start.Point x y) (black_card row_counts.now row_sizes.now column_counts.now column_sizes.now) grid.old report.old memo.old stack.old (reply_by result) grid.new report.new memo.new stack.new }
-{
-    run_from(
-        width,
-        height,
-        Start::Point(x, y),
-        grid,
-        row_counts,
-        row_sizes,
-        column_counts,
-        column_sizes,
-        report,
-        memo,
-        stack,
-    )
+    // Each block has a black colour.
+    fn run_judged(
+        &self,
+        width: usize,
+        height: usize,
+        start: Start,
+        grid: &mut [u32],
+        report: &mut [u32],
+        memo: &mut [u8],
+        stack: &mut [u32],
+    ) -> Result<Progress, RunError> {
+        let colours = [2u32; 4096];
+        let card = Card {
+            row_counts: self.row_counts,
+            row_sizes: self.row_sizes,
+            row_colours: &colours[..self.row_sizes.len()],
+            column_counts: self.column_counts,
+            column_sizes: self.column_sizes,
+            column_colours: &colours[..self.column_sizes.len()],
+        };
+        to_sets(grid);
+        let answer = run_judged(width, height, start, grid, card, report, memo, stack);
+        to_cells(grid);
+        answer
+    }
 }

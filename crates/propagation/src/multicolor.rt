@@ -1,131 +1,48 @@
 // Runs on a grid of colour sets, with a coloured card.
-ghost use Rattle.run.specs.Ends.{reply_by};
-ghost use Rattle.propagation.specs.Calls.{RunsColoured};
-ghost use Rattle.rules.specs.Card.{card_of};
+ghost use Rattle.card.specs.Steps.{lent_card};
+ghost use Rattle.propagation.specs.Calls.{set_cells};
 
-use crate::judge::judge;
-use rules::{ColumnIndex, RowIndex, Verdict};
+use crate::LentCard;
+use card::judge::judge_card;
+use card::parts::Card;
+use rules::Refusal;
 use run::jobs::run_judged;
-use run::{RunAnswer, Start};
+use run::{Progress, RunError, Start};
 
-fn run_from<'a, 'b>(
-    width: usize,
-    height: usize,
-    start: Start,
-    grid: &mut [u32],
-    row_counts: &[u32],
-    row_sizes: &'a [u32],
-    row_colours: &'b [u32],
-    column_counts: &[u32],
-    column_sizes: &'a [u32],
-    column_colours: &'b [u32],
-    report: &mut [u32],
-    memo: &mut [u8],
-    stack: &mut [u32],
-) -> RunAnswer
-    ensures { RunsColoured width height start (card_of row_counts.now row_sizes.now row_colours.now column_counts.now column_sizes.now column_colours.now) grid.old report.old memo.old stack.old (reply_by result) grid.new report.new memo.new stack.new }
-{
-    let v = judge(
-        width,
-        height,
-        start,
-        &grid[..],
-        row_counts,
-        row_sizes,
-        row_colours,
-        column_counts,
-        column_sizes,
-        column_colours,
-        report.len(),
-        memo.len(),
-        stack.len(),
-    );
-    match v {
-        Verdict::Bad(w) => RunAnswer::Refused(w),
-        Verdict::Fine => run_judged(
-            width,
-            height,
-            start,
-            grid,
-            row_counts,
-            row_sizes,
-            row_colours,
-            column_counts,
-            column_sizes,
-            column_colours,
-            report,
-            memo,
-            stack,
-        ),
+impl<'a> LentCard for Card<'a> {
+    ghost lent = { lent_card };
+
+    ghost kind = { set_cells };
+
+    fn judge(
+        &self,
+        width: usize,
+        height: usize,
+        cells: usize,
+        memo: usize,
+        stack: usize,
+    ) -> Result<(), Refusal> {
+        judge_card(width, height, cells, *self, memo, stack)
     }
-}
 
-// A full run: all lines, the farthest from the middle first.
-pub fn run<'a, 'b>(
-    width: usize,
-    height: usize,
-    grid: &mut [u32],
-    row_counts: &[u32],
-    row_sizes: &'a [u32],
-    row_colours: &'b [u32],
-    column_counts: &[u32],
-    column_sizes: &'a [u32],
-    column_colours: &'b [u32],
-    report: &mut [u32],
-    memo: &mut [u8],
-    stack: &mut [u32],
-) -> RunAnswer
-    ensures { RunsColoured width height Start.Full (card_of row_counts.now row_sizes.now row_colours.now column_counts.now column_sizes.now column_colours.now) grid.old report.old memo.old stack.old (reply_by result) grid.new report.new memo.new stack.new }
-{
-    run_from(
-        width,
-        height,
-        Start::Full,
-        grid,
-        row_counts,
-        row_sizes,
-        row_colours,
-        column_counts,
-        column_sizes,
-        column_colours,
-        report,
-        memo,
-        stack,
-    )
-}
+    fn judge_cells(&self, _grid: &[u32]) -> Result<(), Refusal> {
+        Ok(())
+    }
 
-// A run from a point: its row, its column, and what follows from them.
-pub fn run_point<'a, 'b>(
-    width: usize,
-    height: usize,
-    x: ColumnIndex,
-    y: RowIndex,
-    grid: &mut [u32],
-    row_counts: &[u32],
-    row_sizes: &'a [u32],
-    row_colours: &'b [u32],
-    column_counts: &[u32],
-    column_sizes: &'a [u32],
-    column_colours: &'b [u32],
-    report: &mut [u32],
-    memo: &mut [u8],
-    stack: &mut [u32],
-) -> RunAnswer
-    ensures { RunsColoured width height (Start.Point x y) (card_of row_counts.now row_sizes.now row_colours.now column_counts.now column_sizes.now column_colours.now) grid.old report.old memo.old stack.old (reply_by result) grid.new report.new memo.new stack.new }
-{
-    run_from(
-        width,
-        height,
-        Start::Point(x, y),
-        grid,
-        row_counts,
-        row_sizes,
-        row_colours,
-        column_counts,
-        column_sizes,
-        column_colours,
-        report,
-        memo,
-        stack,
-    )
+    fn set_of(&self, cell: u32) -> u32 {
+        cell
+    }
+
+    fn run_judged(
+        &self,
+        width: usize,
+        height: usize,
+        start: Start,
+        grid: &mut [u32],
+        report: &mut [u32],
+        memo: &mut [u8],
+        stack: &mut [u32],
+    ) -> Result<Progress, RunError> {
+        run_judged(width, height, start, grid, *self, report, memo, stack)
+    }
 }

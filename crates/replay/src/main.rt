@@ -8,165 +8,77 @@ mod lines;
 mod pictures;
 mod runs;
 
-ghost use Rattle.std.specs.Prelude.{◌≡◌, length};
-
+use cases::calls::Call;
 use std::io;
 use std::io::Read;
-use vectors::lists::Found;
-use vectors::reader::{Reader, Word};
-use vectors::{reader, report};
+use vectors::reader::{ReadError, Reader};
+use vectors::report::Tallies;
 
-// Whether there may be a case more, and where reading is.
-#[derive(Clone, Copy)]
-struct Turn {
-    going: bool,
-    reader: Reader,
-}
-
-// One count for each call's number, from 0 to 21.
-fn make_counts() -> [u64; 22]
-    ensures { 22 ≡ length result }
-{
-    [0; 22]
-}
-
-// Replays one case by the call's number.
-fn replay_call<R: Read>(
-    case: u64,
-    call: u64,
-    input: &mut R,
-    buffer: &mut [u8],
-    reader: Reader,
-) -> io::Result<Found> {
-    match call {
-        1..=5 | 8..=11 => blocks::replay(call, input, buffer, reader),
-        6 | 7 | 12 | 13 => clues::replay(call, input, buffer, reader),
-        14 | 15 => lines::replay(case, call, input, buffer, reader),
-        16..=19 => runs::replay(case, call, input, buffer, reader),
-        20 | 21 => pictures::replay(case, call, input, buffer, reader),
-        _ => Ok(Found {
-            differing: 1,
-            reader: reader::fail(reader),
-        }),
+// Replays one case by the call's number, and answers how many of its numbers differ. A number that no call has is a fault.
+fn replay_call<R: Read>(case: u64, number: u64, reader: &mut Reader<R>) -> io::Result<u64> {
+    let turn = case as usize;
+    match Call::try_from(number) {
+        Ok(Call::Blocks(call)) => blocks::replay(call, reader),
+        Ok(Call::Clues(call)) => clues::replay(call, reader),
+        Ok(Call::Line(call)) => lines::replay(turn, call, reader),
+        Ok(Call::Run(call)) => runs::replay(turn, call, reader),
+        Ok(Call::Picture(call)) => pictures::replay(turn, call, reader),
+        Err(_) => {
+            reader.fail();
+            Ok(1)
+        }
     }
 }
 
-// Counts a replayed case, and tells its number where it differs.
-fn count_case(
+// The number of the next case's call; none at the end of the file, or where it is broken.
+fn next_call<R: Read>(reader: &mut Reader<R>) -> io::Result<Option<u64>> {
+    match reader.read_number() {
+        Ok(next) => Ok(next),
+        Err(ReadError::Broken) => Ok(None),
+        Err(ReadError::Input(error)) => Err(error),
+    }
+}
+
+// Replays all cases of the file, and tells of each that differs. They are numbered from 1 as they stand in the file.
+fn replay_all<R: Read>(
     rt: &impl Print,
-    case: u64,
-    call: u64,
-    found: Found,
-    cases: &mut [u64],
-    differing: &mut [u64],
+    reader: &mut Reader<R>,
+    tallies: &mut Tallies,
 ) -> io::Result<()> {
-    report::count(cases, call);
-    if found.differing != 0 {
-        report::count(differing, call);
-        report::write_difference(rt, case, call, found.differing)?;
+    for case in 1..=u64::MAX {
+        let Some(number) = next_call(reader)? else {
+            break;
+        };
+        let differing = replay_call(case, number, reader)?;
+        tallies.count(number, differing != 0);
+        if differing != 0 {
+            println!(rt; "case {case} of call {number} differs in {differing} numbers")?;
+        }
+        if reader.is_faulty() {
+            break;
+        }
     }
     Ok(())
 }
 
-// The next case of the file, if there is one.
-fn replay_next<R: Read>(
-    rt: &impl Print,
-    case: u64,
-    input: &mut R,
-    buffer: &mut [u8],
-    reader: Reader,
-    cases: &mut [u64],
-    differing: &mut [u64],
-) -> io::Result<Turn> {
-    let next = reader::read_word(input, buffer, reader)?;
-    let word = next.word;
-    let reader = next.reader;
-    let Word::Number(call) = word else {
-        return Ok(Turn {
-            going: false,
-            reader,
-        });
-    };
-    let found = replay_call(case, call, input, buffer, reader)?;
-    let reader = found.reader;
-    count_case(rt, case, call, found, cases, differing)?;
-    Ok(Turn {
-        going: !reader.faulty,
-        reader,
-    })
-}
-
-// All cases of the file; answers where reading ended. The loop counts the cases, since nothing says that an input ends.
-fn replay_all<R: Read>(
-    rt: &impl Print,
-    input: &mut R,
-    buffer: &mut [u8],
-    cases: &mut [u64],
-    differing: &mut [u64],
-) -> io::Result<Reader> {
-    let mut reader = reader::open();
-    let mut going = true;
-    let mut case = 0;
-    while case < u64::MAX && going {
-        case += 1;
-        let turn = replay_next(rt, case, input, buffer, reader, cases, differing)?;
-        reader = turn.reader;
-        going = turn.going;
+// How many cases of each call were replayed and of all calls, how many of them differ, and whether the whole input was read.
+fn write_report(rt: &impl Print, tallies: &Tallies, faulty: bool) -> io::Result<()> {
+    for number in 1..=21 {
+        if let Ok(call) = Call::try_from(number) {
+            println!(rt; "{call}: {}", tallies.of(number))?;
+        }
     }
-    Ok(reader)
-}
-
-fn write_coloured(rt: &impl Print, cases: &[u64], differing: &[u64]) -> io::Result<()> {
-    report::write_call(rt, b"sp_partial_sums", 1, cases, differing)?;
-    report::write_call(rt, b"sp_block_starts", 2, cases, differing)?;
-    report::write_call(rt, b"sp_positions_number", 3, cases, differing)?;
-    report::write_call(rt, b"sp_color_ranges", 4, cases, differing)?;
-    report::write_call(rt, b"sp_description", 5, cases, differing)?;
-    report::write_call(rt, b"sp_clue", 6, cases, differing)?;
-    report::write_call(rt, b"sp_clues", 7, cases, differing)
-}
-
-fn write_binary(rt: &impl Print, cases: &[u64], differing: &[u64]) -> io::Result<()> {
-    report::write_call(rt, b"sp_binary_partial_sums", 8, cases, differing)?;
-    report::write_call(rt, b"sp_binary_block_starts", 9, cases, differing)?;
-    report::write_call(rt, b"sp_binary_positions_number", 10, cases, differing)?;
-    report::write_call(rt, b"sp_binary_description", 11, cases, differing)?;
-    report::write_call(rt, b"sp_binary_clue", 12, cases, differing)?;
-    report::write_call(rt, b"sp_binary_clues", 13, cases, differing)
-}
-
-fn write_lines(rt: &impl Print, cases: &[u64], differing: &[u64]) -> io::Result<()> {
-    report::write_call(rt, b"sp_solve_line", 14, cases, differing)?;
-    report::write_call(rt, b"sp_solve_binary_line", 15, cases, differing)
-}
-
-fn write_runs(rt: &impl Print, cases: &[u64], differing: &[u64]) -> io::Result<()> {
-    report::write_call(rt, b"sp_run", 16, cases, differing)?;
-    report::write_call(rt, b"sp_run_point", 17, cases, differing)?;
-    report::write_call(rt, b"sp_run_binary", 18, cases, differing)?;
-    report::write_call(rt, b"sp_run_binary_point", 19, cases, differing)
-}
-
-fn write_pictures(rt: &impl Print, cases: &[u64], differing: &[u64]) -> io::Result<()> {
-    report::write_call(rt, b"sp_read_pbm", 20, cases, differing)?;
-    report::write_call(rt, b"sp_write_pbm", 21, cases, differing)
+    println!(rt; "all calls: {}", tallies.total())?;
+    if faulty {
+        println!(rt; "the input is broken: it was not read to its end")
+    } else {
+        println!(rt; "the input was read to its end")
+    }
 }
 
 fn main(rt: HostRuntime) -> io::Result<()> {
-    let mut buffer = [0; 65536];
-    let mut cases = make_counts();
-    let mut differing = make_counts();
-    let end = replay_all(
-        &rt,
-        &mut rt.reader(),
-        &mut buffer,
-        &mut cases,
-        &mut differing,
-    )?;
-    write_coloured(&rt, &cases, &differing)?;
-    write_binary(&rt, &cases, &differing)?;
-    write_lines(&rt, &cases, &differing)?;
-    write_runs(&rt, &cases, &differing)?;
-    write_pictures(&rt, &cases, &differing)?;
-    report::write_end(&rt, &cases, &differing, end.faulty)
+    let mut reader = Reader::new(rt.reader());
+    let mut tallies = Tallies::new();
+    replay_all(&rt, &mut reader, &mut tallies)?;
+    write_report(&rt, &tallies, reader.is_faulty())
 }

@@ -1,13 +1,14 @@
 // Replays the runs. A case has a card (its point is 0, 0 in a full run, and binary blocks have no colours), then the answer's number, the
 // refusing line's kind (0 a row, 1 a column, 2 none) and index, report entries, lines solved, the grid, and the report.
-use cases::runs::run;
-use cases::{Ends, Head};
+use cases::cards::{Board, Card, Room};
+use cases::runs::{RunCall, Workspace, run};
 use replies::runs::RunReply;
 use std::io;
 use std::io::Read;
-use vectors::lists::Found;
+use vectors::comparison::Comparison;
+use vectors::lists;
+use vectors::lists::{Bytes, Codes, Lent, Report};
 use vectors::reader::Reader;
-use vectors::{bytes, lists};
 
 // The least memo of a run.
 const MEMO: usize = 4160;
@@ -15,138 +16,57 @@ const MEMO: usize = 4160;
 // The least stack of a run.
 const STACK: usize = 128;
 
-fn compare_reply<R: Read>(
-    input: &mut R,
-    buffer: &mut [u8],
-    reader: Reader,
-    reply: RunReply,
-) -> io::Result<Found> {
-    let found = Found {
-        differing: 0,
-        reader,
-    };
-    let found = lists::compare_number(input, buffer, found, lists::widen(reply.number))?;
-    let found = lists::compare_number(input, buffer, found, lists::widen(reply.line_kind))?;
-    let found = lists::compare_number(input, buffer, found, reply.line_index as u64)?;
-    let found = lists::compare_number(input, buffer, found, reply.entries as u64)?;
-    lists::compare_number(input, buffer, found, reply.lines as u64)
+fn compare_reply<R: Read>(comparison: &mut Comparison<R>, reply: RunReply) -> io::Result<()> {
+    comparison.number(u64::from(reply.number))?;
+    comparison.number(u64::from(reply.line_kind))?;
+    comparison.number(reply.line_index as u64)?;
+    comparison.number(reply.entries as u64)?;
+    comparison.number(reply.lines as u64)
 }
 
-// Compares an answer and what it leaves. The report was lent from `first` on.
-fn compare_rest<R: Read>(
-    input: &mut R,
-    buffer: &mut [u8],
-    reader: Reader,
-    reply: RunReply,
-    grid: &[u32],
-    first: usize,
-    report: &[u32],
-) -> io::Result<Found> {
-    let found = compare_reply(input, buffer, reader, reply)?;
-    let found = lists::compare(input, buffer, found, grid)?;
-    lists::compare_from(input, buffer, found, first, report)
-}
-
-// Makes the run with the report from `first` on.
+// Makes the run. It is lent the least memo and stack, and the report from `first` on. What memo and stack hold goes by the turn.
 fn make_run(
-    call: u64,
-    head: Head,
-    ends: Ends,
+    turn: usize,
+    call: RunCall,
+    card: &Card,
     grid: &mut [u32],
-    clues: &[u32],
     first: usize,
     report: &mut [u32],
-    memo: &mut [u8],
-    stack: &mut [u32],
 ) -> RunReply {
+    let mut memo: Bytes = lists::make_filled(turn);
+    let mut stack = lists::make_filled_stack(turn);
     let start = lists::within(first, report);
-    run(
-        call,
-        head,
-        ends,
-        grid,
-        clues,
-        &mut report[start..],
-        memo,
-        stack,
-    )
+    let mut space = Workspace {
+        report: &mut report[start..],
+        memo: lists::lend(&mut memo, MEMO),
+        stack: lists::lend(&mut stack, STACK),
+    };
+    run(call, card, grid, &mut space)
 }
 
-fn compare_run<R: Read>(
-    call: u64,
-    head: Head,
-    ends: Ends,
-    grid: &mut [u32],
-    clues: &[u32],
-    first: usize,
-    report: &mut [u32],
-    memo: &mut [u8],
-    stack: &mut [u32],
-    input: &mut R,
-    buffer: &mut [u8],
-    reader: Reader,
-) -> io::Result<Found> {
-    let reply = make_run(call, head, ends, grid, clues, first, report, memo, stack);
-    compare_rest(input, buffer, reader, reply, grid, first, report)
-}
-
-// Lends the least memo and stack, and the report's least room with up to three entries more. What they hold goes by the case's number.
-fn replay_run<R: Read>(
-    case: usize,
-    call: u64,
-    head: Head,
-    ends: Ends,
-    grid: &mut [u32],
-    clues: &[u32],
-    input: &mut R,
-    buffer: &mut [u8],
-    reader: Reader,
-) -> io::Result<Found> {
-    let mut report = lists::make_filled_long();
-    let mut memo = bytes::make_filled(case);
-    let mut stack = lists::make_filled_stack(case);
-    let first = case % 61;
-    let room = lists::within(head.room, &report);
-    let end = lists::within(first + room + case % 4, &report);
-    let bytes_end = bytes::within(MEMO, &memo);
-    let stack_end = lists::within(STACK, &stack);
-    compare_run(
-        call,
-        head,
-        ends,
-        grid,
-        clues,
-        first,
-        &mut report[..end],
-        &mut memo[..bytes_end],
-        &mut stack[..stack_end],
-        input,
-        buffer,
-        reader,
-    )
-}
-
+// Lends the report's least room with up to three entries more, and compares.
 pub(crate) fn replay<R: Read>(
-    case: u64,
-    call: u64,
-    input: &mut R,
-    buffer: &mut [u8],
-    reader: Reader,
-) -> io::Result<Found> {
-    let mut grid = lists::make();
-    let mut list = cases::make();
-    let board = cases::read_board(input, buffer, reader, &mut grid)?;
-    let clues = cases::read_clues(input, buffer, board.reader, &mut list)?;
-    let cells = board.cells;
-    replay_run(
-        case as usize,
-        call,
-        board.head,
-        clues.ends,
-        &mut grid[..cells],
-        &list,
-        input,
-        buffer,
-        clues.reader,
-    )
+    turn: usize,
+    call: RunCall,
+    reader: &mut Reader<R>,
+) -> io::Result<u64> {
+    let mut grid: Codes = lists::make();
+    let mut room: Room = lists::make();
+    let mut report: Report = lists::make_filled(0);
+    let board = Board::read(reader, &mut grid)?;
+    let card = Card::read(reader, board.head, &mut room)?;
+    let grid = &mut grid[..board.cells];
+    let first = turn % 61;
+    let least = lists::within(card.head.room, &report);
+    let report = lists::lend(&mut report, first + least + turn % 4);
+    let reply = make_run(turn, call, &card, grid, first, report);
+    let mut comparison = Comparison::new(reader);
+    compare_reply(&mut comparison, reply)?;
+    comparison.list(&Lent::whole(grid))?;
+    comparison.list(&Lent {
+        turn: 0,
+        first,
+        list: report,
+    })?;
+    Ok(comparison.differing())
 }

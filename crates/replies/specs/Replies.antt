@@ -1,17 +1,12 @@
 -- What answers tell over C: the form of every statement about a struct, and the one struct for each answer.
-use Rattle.std.specs.Prelude.{◌≡◌, ℕ}
+use Rattle.std.specs.Prelude.{◌≡◌, ℕ, Err, Ok, Result}
 use Rattle.std.proofs.Math.Option.{Option, none, some}
 use Rattle.rules.specs.Refusal.{refusal_number_of}
 use Rattle.rules.specs.declared.LinePosition.{LinePosition}
 use Rattle.rules.specs.declared.LinePosition.TheVariants.{Row, Column}
-use Rattle.rules.specs.declared.ListAnswer.{ListAnswer}
-use Rattle.rules.specs.declared.ListAnswer.TheVariants.{Done, Refused}
-use Rattle.positions.specs.declared.NumberAnswer.{NumberAnswer}
-use Rattle.positions.specs.declared.NumberAnswer.TheVariants as number
-use Rattle.picture.specs.declared.CluesAnswer.{CluesAnswer}
-use Rattle.picture.specs.declared.CluesAnswer.TheVariants as clues
-use Rattle.pbm.specs.declared.PbmAnswer.{PbmAnswer}
-use Rattle.pbm.specs.declared.PbmAnswer.TheVariants as pbm
+use Rattle.rules.specs.declared.Refusal.{Refusal}
+use Rattle.picture.specs.declared.Totals.{Totals}
+use Rattle.pbm.specs.declared.Sides.{Sides}
 use Rattle.run.specs.Ends.{Reply}
 use Rattle.replies.specs.declared.count.CountReply.{CountReply}
 use Rattle.replies.specs.declared.number.PositionsReply.{PositionsReply}
@@ -28,24 +23,24 @@ pub record Told {A B : Type 0} (tell : A → B) (Says : A → Type 0) (r : B) : 
 -- ---- the documents' number, and the values that come with 0; with a refusal these are 0
 
 -- how many entries are written
-abbrev pub tell_count_of : ListAnswer → CountReply
-tell_count_of (Done n) = record { number = 0; count = n }
-tell_count_of (Refused w) = record { number = refusal_number_of w; count = 0 }
+abbrev pub tell_count_of : Result ℕ Refusal → CountReply
+tell_count_of (Ok n) = record { number = 0; count = n }
+tell_count_of (Err w) = record { number = refusal_number_of w; count = 0 }
 
 -- how many blocks are written for the rows, and for the columns
-abbrev pub tell_clues_of : CluesAnswer → CluesReply
-tell_clues_of (clues.Done m n) = record { number = 0; rows = m; columns = n }
-tell_clues_of (clues.Refused w) = record { number = refusal_number_of w; rows = 0; columns = 0 }
+abbrev pub tell_clues_of : Result Totals Refusal → CluesReply
+tell_clues_of (Ok t) = record { number = 0; rows = t.rows; columns = t.columns }
+tell_clues_of (Err w) = record { number = refusal_number_of w; rows = 0; columns = 0 }
 
 -- in how many places the blocks lie
-abbrev pub tell_positions_of : NumberAnswer → PositionsReply
-tell_positions_of (number.Number n) = record { number = 0; positions = n }
-tell_positions_of (number.Refused w) = record { number = refusal_number_of w; positions = 0 }
+abbrev pub tell_positions_of : Result ℕ Refusal → PositionsReply
+tell_positions_of (Ok n) = record { number = 0; positions = n }
+tell_positions_of (Err w) = record { number = refusal_number_of w; positions = 0 }
 
 -- the sides of the picture that was read
-abbrev pub tell_pbm_of : PbmAnswer → PbmReply
-tell_pbm_of (pbm.Done w h) = record { number = 0; width = w; height = h }
-tell_pbm_of (pbm.Refused w) = record { number = refusal_number_of w; width = 0; height = 0 }
+abbrev pub tell_pbm_of : Result Sides Refusal → PbmReply
+tell_pbm_of (Ok s) = record { number = 0; width = s.width; height = s.height }
+tell_pbm_of (Err w) = record { number = refusal_number_of w; width = 0; height = 0 }
 
 -- ---- a run
 

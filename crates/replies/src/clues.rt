@@ -2,8 +2,8 @@
 ghost use Rattle.std.specs.Prelude.{◌≡◌};
 ghost use Rattle.replies.specs.Replies.{tell_clues_of};
 
-use picture::CluesAnswer;
-use rules::refusal_number;
+use picture::Totals;
+use rules::Refusal;
 
 // Document 01's number, and how many blocks are written for the rows and for the columns: with a refusal 0 and 0.
 #[repr(C)]
@@ -14,19 +14,22 @@ pub struct CluesReply {
     pub columns: usize,
 }
 
-pub fn tell_clues(answer: CluesAnswer) -> CluesReply
-    ensures { result ≡ tell_clues_of answer }
-{
-    match answer {
-        CluesAnswer::Done { rows, columns } => CluesReply {
-            number: 0,
-            rows,
-            columns,
-        },
-        CluesAnswer::Refused(w) => CluesReply {
-            number: refusal_number(w),
-            rows: 0,
-            columns: 0,
-        },
+// The struct tells the answer.
+impl From<Result<Totals, Refusal>> for CluesReply {
+    ghost from_gives = { λ answer reply. reply ≡ tell_clues_of answer };
+
+    fn from(answer: Result<Totals, Refusal>) -> CluesReply {
+        match answer {
+            Ok(Totals { rows, columns }) => CluesReply {
+                number: 0,
+                rows,
+                columns,
+            },
+            Err(refusal) => CluesReply {
+                number: u32::from(refusal),
+                rows: 0,
+                columns: 0,
+            },
+        }
     }
 }

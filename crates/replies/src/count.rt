@@ -2,7 +2,7 @@
 ghost use Rattle.std.specs.Prelude.{◌≡◌};
 ghost use Rattle.replies.specs.Replies.{tell_count_of};
 
-use rules::{ListAnswer, refusal_number};
+use rules::Refusal;
 
 // Document 01's number, and how many entries of each list are written: with a refusal 0.
 #[repr(C)]
@@ -12,17 +12,17 @@ pub struct CountReply {
     pub count: usize,
 }
 
-pub fn tell_count(answer: ListAnswer) -> CountReply
-    ensures { result ≡ tell_count_of answer }
-{
-    match answer {
-        ListAnswer::Done { entries } => CountReply {
-            number: 0,
-            count: entries,
-        },
-        ListAnswer::Refused(w) => CountReply {
-            number: refusal_number(w),
-            count: 0,
-        },
+// The struct tells the answer.
+impl From<Result<usize, Refusal>> for CountReply {
+    ghost from_gives = { λ answer reply. reply ≡ tell_count_of answer };
+
+    fn from(answer: Result<usize, Refusal>) -> CountReply {
+        match answer {
+            Ok(count) => CountReply { number: 0, count },
+            Err(refusal) => CountReply {
+                number: u32::from(refusal),
+                count: 0,
+            },
+        }
     }
 }

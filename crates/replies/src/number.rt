@@ -2,8 +2,7 @@
 ghost use Rattle.std.specs.Prelude.{◌≡◌};
 ghost use Rattle.replies.specs.Replies.{tell_positions_of};
 
-use positions::NumberAnswer;
-use rules::refusal_number;
+use rules::Refusal;
 
 // Document 01's number, and in how many places the blocks lie: with a refusal 0.
 #[repr(C)]
@@ -13,17 +12,20 @@ pub struct PositionsReply {
     pub positions: u64,
 }
 
-pub fn tell_positions(answer: NumberAnswer) -> PositionsReply
-    ensures { result ≡ tell_positions_of answer }
-{
-    match answer {
-        NumberAnswer::Number(n) => PositionsReply {
-            number: 0,
-            positions: n,
-        },
-        NumberAnswer::Refused(w) => PositionsReply {
-            number: refusal_number(w),
-            positions: 0,
-        },
+// The struct tells the answer.
+impl From<Result<u64, Refusal>> for PositionsReply {
+    ghost from_gives = { λ answer reply. reply ≡ tell_positions_of answer };
+
+    fn from(answer: Result<u64, Refusal>) -> PositionsReply {
+        match answer {
+            Ok(positions) => PositionsReply {
+                number: 0,
+                positions,
+            },
+            Err(refusal) => PositionsReply {
+                number: u32::from(refusal),
+                positions: 0,
+            },
+        }
     }
 }

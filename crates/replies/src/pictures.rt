@@ -2,8 +2,8 @@
 ghost use Rattle.std.specs.Prelude.{◌≡◌};
 ghost use Rattle.replies.specs.Replies.{tell_pbm_of};
 
-use pbm::PbmAnswer;
-use rules::refusal_number;
+use pbm::Sides;
+use rules::Refusal;
 
 // The documents' number, and the sides of the picture: with a refusal 0 and 0.
 #[repr(C)]
@@ -14,19 +14,22 @@ pub struct PbmReply {
     pub height: usize,
 }
 
-pub fn tell_pbm(answer: PbmAnswer) -> PbmReply
-    ensures { result ≡ tell_pbm_of answer }
-{
-    match answer {
-        PbmAnswer::Done { width, height } => PbmReply {
-            number: 0,
-            width,
-            height,
-        },
-        PbmAnswer::Refused(w) => PbmReply {
-            number: refusal_number(w),
-            width: 0,
-            height: 0,
-        },
+// The struct tells the answer.
+impl From<Result<Sides, Refusal>> for PbmReply {
+    ghost from_gives = { λ answer reply. reply ≡ tell_pbm_of answer };
+
+    fn from(answer: Result<Sides, Refusal>) -> PbmReply {
+        match answer {
+            Ok(Sides { width, height }) => PbmReply {
+                number: 0,
+                width,
+                height,
+            },
+            Err(refusal) => PbmReply {
+                number: u32::from(refusal),
+                width: 0,
+                height: 0,
+            },
+        }
     }
 }

@@ -4,8 +4,8 @@ ghost use Rattle.std.proofs.Math.Option.{some, none};
 ghost use Rattle.run.specs.Ends.{reply_by};
 ghost use Rattle.replies.specs.Replies.{tell_run};
 
-use rules::{LinePosition, refusal_number};
-use run::RunAnswer;
+use rules::LinePosition;
+use run::{Progress, RunError};
 
 // What a run answers: document 01's number; the line that refused, its kind 0 for a row, 1 for a column and 2 for none, whose index is 0;
 // the entries written to the report; the lines solved. A refusal by checking has no line and no counts.
@@ -19,6 +19,7 @@ pub struct RunReply {
     pub lines: usize,
 }
 
+// The reply that names no line.
 fn reply_without_line(number: u32, entries: usize, lines: usize) -> RunReply
     ensures { result ≡ tell_run (record { number = number; line = none; entries = entries; lines = lines }) }
 {
@@ -31,37 +32,32 @@ fn reply_without_line(number: u32, entries: usize, lines: usize) -> RunReply
     }
 }
 
-fn reply_with_line(line: LinePosition, entries: usize, lines: usize) -> RunReply
-    ensures { result ≡ tell_run (record { number = 8; line = some line; entries = entries; lines = lines }) }
+// The reply that names the line that refused.
+fn reply_with_line(line: LinePosition, progress: Progress) -> RunReply
+    ensures { result ≡ tell_run (record { number = 8; line = some line; entries = progress.entries; lines = progress.lines }) }
 {
-    match line {
-        LinePosition::Row(y) => RunReply {
-            number: 8,
-            line_kind: 0,
-            line_index: y.0,
-            entries,
-            lines,
-        },
-        LinePosition::Column(x) => RunReply {
-            number: 8,
-            line_kind: 1,
-            line_index: x.0,
-            entries,
-            lines,
-        },
+    let (line_kind, line_index) = match line {
+        LinePosition::Row(y) => (0, y.0),
+        LinePosition::Column(x) => (1, x.0),
+    };
+    RunReply {
+        number: 8,
+        line_kind,
+        line_index,
+        entries: progress.entries,
+        lines: progress.lines,
     }
 }
 
-pub fn reply_of(answer: RunAnswer) -> RunReply
-    ensures { result ≡ tell_run (reply_by answer) }
-{
-    match answer {
-        RunAnswer::Done { entries, lines } => reply_without_line(0, entries, lines),
-        RunAnswer::Unsolvable {
-            line,
-            entries,
-            lines,
-        } => reply_with_line(line, entries, lines),
-        RunAnswer::Refused(w) => reply_without_line(refusal_number(w), 0, 0),
+// The struct tells the answer.
+impl From<Result<Progress, RunError>> for RunReply {
+    ghost from_gives = { λ answer reply. reply ≡ tell_run (reply_by answer) };
+
+    fn from(answer: Result<Progress, RunError>) -> RunReply {
+        match answer {
+            Ok(Progress { entries, lines }) => reply_without_line(0, entries, lines),
+            Err(RunError::Unsolvable { line, progress }) => reply_with_line(line, progress),
+            Err(RunError::Refused(refusal)) => reply_without_line(u32::from(refusal), 0, 0),
+        }
     }
 }

@@ -1,4 +1,7 @@
 -- Blocks in two lists, one block at a time; and the test of rule 4, which is false exactly of legal blocks.
+use Rattle.std.specs.Prelude.{◌||◌}
+use Rattle.std.specs.List.{list_any, zip}
+use Rattle.std.proofs.lemmas.Bool.{or_parts}
 use mathlib.Core.Path.{◌≡◌, refl, sym, ap, ap₂, ◌∙◌}
 use mathlib.Core.Logic.{◌≢◌}
 use mathlib.Core.Bool.{Bool, true, false, cond, not}
@@ -6,13 +9,13 @@ use mathlib.Core.List.{List, [], ◌∷◌, map}
 use Prim.Native.Nat.{ℕ, zero, suc, ◌+◌, ◌≤◌, ◌<◌}
 use native.Mathlib.Numerals.{add-one}
 use native.Mathlib.Omega.{arith}
-use borrow.Author.Tests.{eqb-true, eqb-false, not-false, eq-eqb, ne_eqb}
+use borrow.Author.Tests.{eqb-true, eqb-false, not-false, ne_eqb}
 use lib.Count.{ones}
 use lib.Dec.{eqb}
 use lib.ListN.{length, take, drop, get_or, replicate, drop_of_length-le}
 use lib.Seq.{drop-cons}
 use Rattle.rules.specs.Colour.{Colour}
-use Rattle.rules.specs.Block.{Block, ◌of◌, black, blacks, sizes_by, colours_by, blocks, coloured, binary, Legal, legal_none, legal_block, illegal_colour_of, illegal_block, illegal}
+use Rattle.rules.specs.Block.{Block, ◌of◌, black, blacks, sizes_by, colours_by, blocks, Legal, legal_none, legal_block, illegal_colour_of, illegal_block, illegal}
 use Rattle.rules.proofs.Tests.{cond_false}
 use Rattle.rules.proofs.Colours.{one_colour, ones_pow}
 
@@ -54,7 +57,7 @@ colour_legal c k d = rw (ne_eqb c 1 d, ap ones k.1 ∙ ones_pow k.0)
 pub test_legal : (bs : List Block) → illegal bs ≡ false → Legal bs
 test_legal [] e = legal_none
 test_legal (b ∷ bs) e =
-    let p = cond_false (illegal_block b.size b.colour) (illegal bs) e in
+    let p = or_parts (illegal_block b.size b.colour) (illegal bs) e in
     let q = cond_false (eqb b.size 0) (illegal_colour_of b.colour) p.0 in
     let k = legal_colour b.colour q.1 in
     let z = eqb-false b.size 0 q.0 in
@@ -79,16 +82,11 @@ pub blacks_blocks : (ns : List ℕ) → blocks ns (blacks ns) ≡ map black ns
 blacks_blocks [] = refl
 blacks_blocks (n ∷ ns) = ap (λ l. black n ∷ l) (blacks_blocks ns)
 
-pub black_blocks : (ns : List ℕ) (k : ℕ) → length ns ≤ k → blocks ns (take (length ns) (replicate k 2)) ≡ map black ns
-black_blocks ns k h = ap (blocks ns) (blacks_take ns k h) ∙ blacks_blocks ns
-
-pub blacks_length : (n k : ℕ) → n ≤ k → length (take n (replicate k (suc (suc zero)))) ≡ n
-blacks_length zero k h = refl
-blacks_length (suc n) zero h = absurd (omega arith)
-blacks_length (suc n) (suc k) h = ap suc (blacks_length n k (omega arith))
-
-pub black_lent_lem : (ns : List ℕ) → length ns ≤ 64 → coloured ns (take (length ns) (replicate 64 2)) ≡ binary ns
-black_lent_lem ns h = ap₂ (λ t l. record { paired = t; list = l }) (eq-eqb _ _ (sym (blacks_length (length ns) 64 h))) (black_blocks ns 64 h)
+-- some block of two lists is not legal where some size and colour beside one another make none
+pub paired_any : (ns cs : List ℕ) → list_any (λ p. illegal_block p.0 p.1) (zip ns cs) ≡ illegal (blocks ns cs)
+paired_any [] cs = refl
+paired_any (n ∷ ns) [] = refl
+paired_any (n ∷ ns) (c ∷ cs) = ap (λ b. illegal_block n c || b) (paired_any ns cs)
 
 -- a black block is legal unless it is empty
 black_block : (n : ℕ) → illegal_block n 2 ≡ eqb n 0
@@ -98,9 +96,7 @@ black_block n = rw (colour_legal 2 (1, refl) (λ e. omega arith)) (itself (eqb n
     itself true = refl
     itself false = refl
 
-module _ (ns : List ℕ) (i : ℕ) where
-  pub black_step : i < length ns → illegal (map black (drop i ns)) ≡ cond (eqb (get_or ns i 0) 0) true (illegal (map black (drop (i + 1) ns)))
-  black_step h = rw (add-one i, drop-cons ns i 0 h) (ap (λ t. cond t true (illegal (map black (drop (suc i) ns)))) (black_block (get_or ns i 0)))
-
-  pub black_end : length ns ≤ i → illegal (map black (drop i ns)) ≡ false
-  black_end h = rw (drop_of_length-le ns h)
+-- some black block is not legal where some size is 0
+pub black_any : (ns : List ℕ) → list_any (λ n. eqb n 0) ns ≡ illegal (map black ns)
+black_any [] = refl
+black_any (n ∷ ns) = ap₂ (λ a b. a || b) (sym (black_block n)) (black_any ns)

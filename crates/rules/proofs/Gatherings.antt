@@ -1,4 +1,5 @@
 -- Cards that hold the clues of a board's lines, line after line: each line's part is its clue, and legal clues break no rule of a card.
+use Rattle.std.specs.Prelude.{Ok}
 use mathlib.Core.Path.{◌≡◌, refl, sym, ap, ap₂, ◌∙◌, subst}
 use mathlib.Core.Bool.{true, false}
 use mathlib.Core.List.{List, [], ◌∷◌, ◌++◌, map, map-append, map-map}
@@ -15,7 +16,6 @@ use Rattle.rules.specs.CardRules.{counts_fit, crowded, card_rules}
 use Rattle.rules.specs.Refusal.{verdict, side_rules, memo_size, stack_size}
 use Rattle.rules.specs.declared.LinePosition.{LinePosition}
 use Rattle.rules.specs.declared.LinePosition.TheVariants.{Row, Column}
-use Rattle.rules.specs.declared.Verdict.TheVariants.{Fine}
 use Rattle.rules.proofs.Blocks.{blocks_back, sizes_back, legal_test}
 use Rattle.rules.proofs.Searching.{none_above}
 use Rattle.rules.proofs.Verdicts.{sides_fine}
@@ -132,9 +132,9 @@ module _ (w h : ℕ) (f : LinePosition → List Block) where
         go (Column x) p = line_part_lem (λ k. f (column k)) w x.0 p
 
     -- legal clues of at most 64 blocks each break no rule of a card
-    pub gathered_fine : (cells memo stack : ℕ) → verdict (side_rules w h) ≡ Fine → cells ≡ w * h → memo_size ≤ memo → stack_size ≤ stack
+    pub gathered_fine : (cells memo stack : ℕ) → verdict (side_rules w h) ≡ Ok tt → cells ≡ w * h → memo_size ≤ memo → stack_size ≤ stack
         → ((l : LinePosition) → On w h l → Legal (f l)) → ((l : LinePosition) → On w h l → length (f l) ≤ 64)
-        → verdict (card_rules w h cells c memo stack) ≡ Fine
+        → verdict (card_rules w h cells c memo stack) ≡ Ok tt
     gathered_fine cells memo stack sides e m s legal few =
         let q = sides_fine w h sides in
         ap (λ k. verdict (card_rules w h cells k memo stack)) is

@@ -1,4 +1,7 @@
 -- A text of a picture by rules is what a reader computes from it byte by byte: the sizes, the heading, the raster and the verdict.
+use Rattle.std.proofs.lemmas.Bool.{or_parts}
+use Rattle.std.specs.Prelude.{Err, Ok}
+use Rattle.rules.specs.Refusal.{GoodSides, verdict, side_rules, Verdict}
 use mathlib.Core.Path.{◌≡◌, refl, sym, ap, ap₂, subst, ◌∙◌}
 use mathlib.Core.Logic.{◌⊎◌, inl, inr}
 use mathlib.Core.Bool.{Bool, true, false, cond, not, ◌&&◌}
@@ -9,13 +12,10 @@ use native.Mathlib.Omega.{arith}
 use borrow.Author.Tests.{eq-eqb, ne_eqb, le-leb, lt-leb, lt-ltb, le-ltb, eqb-true, ltb-true, ltb-false, leb-true, not-true}
 use lib.Dec.{eqb, ltb, leb}
 use lib.ListN.{length}
-use Rattle.rules.specs.Ranges.{any_of}
-use Rattle.rules.specs.Refusal.{GoodSides, verdict, side_rules}
+use Rattle.std.specs.List.{list_any}
 use Rattle.rules.specs.Pbm.{is_space_of, is_digit_of, is_line_end, is_pixel_of, Filler, no_filler, a_space, a_comment, Spaced, Numeral, a_digit, longer, NoDigit, SizeAt, HeadingAt, Raster, no_cell, between, a_white, a_black, Drawn, TextOf, Stage, no_heading, bad_sides, no_room, not_drawn, a_picture, is_plain, past_filler, Sized, digits, numeral_at, size_at, Heading, heading_with, heading_from, heading, pixels, is_stray_of, begins_spaced, is_drawn_of, raster_rules, read_rules, sides_read, codes_read}
 use Rattle.rules.specs.declared.Refusal.TheVariants.{BadLength, BadRoom, BadText}
-use Rattle.rules.specs.declared.Verdict.{Verdict}
-use Rattle.rules.specs.declared.Verdict.TheVariants.{Fine, Bad}
-use Rattle.rules.proofs.Tests.{true_not_false, both_true, cond_false}
+use Rattle.rules.proofs.Tests.{true_not_false, both_true}
 use Rattle.rules.proofs.Verdicts.{bad_not_fine, append_bad, append_fine, sides_fine, sides_good, sides_cases, sides_bad}
 
 -- ---- bytes
@@ -48,10 +48,10 @@ digit_plain c e =
 space_past : (c : ℕ) (t : List ℕ) → is_space_of c ≡ true → past_filler false (c ∷ t) ≡ past_filler false t
 space_past c t e = rw (e, space_apart c 35 e refl)
 
-comment_past : (l : List ℕ) (e : ℕ) (t : List ℕ) → any_of is_line_end l ≡ false → is_line_end e ≡ true
+comment_past : (l : List ℕ) (e : ℕ) (t : List ℕ) → list_any is_line_end l ≡ false → is_line_end e ≡ true
     → past_filler true (l ++ (e ∷ t)) ≡ past_filler false t
 comment_past [] e t p q = rw q
-comment_past (c ∷ l) e t p q = let r = cond_false (is_line_end c) (any_of is_line_end l) p in rw r.0 (comment_past l e t r.1 q)
+comment_past (c ∷ l) e t p q = let r = or_parts (is_line_end c) (list_any is_line_end l) p in rw r.0 (comment_past l e t r.1 q)
 
 filler_past : {f : List ℕ} → Filler f → (u : List ℕ) → past_filler false (f ++ u) ≡ past_filler false u
 filler_past no_filler u = refl
@@ -72,7 +72,7 @@ record Closed (text rest : List ℕ) : Type 0 where
   comment : List ℕ
   end : ℕ
   filler : List ℕ
-  inside : any_of is_line_end comment ≡ false
+  inside : list_any is_line_end comment ≡ false
   ends : is_line_end end ≡ true
   filled : Filler filler
   is : text ≡ comment ++ (end ∷ (filler ++ rest))
@@ -294,17 +294,17 @@ space_pixel : (c : ℕ) → is_space_of c ≡ true → is_pixel_of c ≡ false
 space_pixel c e = rw (space_apart c 48 e refl, space_apart c 49 e refl)
 
 -- a raster by rules has no stray byte, and its codes are those read
-pub raster_computed : {codes t : List ℕ} → Raster codes t → (any_of is_stray_of t ≡ false) × (pixels t ≡ codes)
+pub raster_computed : {codes t : List ℕ} → Raster codes t → (list_any is_stray_of t ≡ false) × (pixels t ≡ codes)
 raster_computed no_cell = (refl, refl)
 raster_computed (between {c = c} e r) = let u = raster_computed r in (rw e u.0, rw (space_pixel c e) u.1)
 raster_computed (a_white r) = let u = raster_computed r in (u.0, ap (λ (l : List ℕ). 1 ∷ l) u.1)
 raster_computed (a_black r) = let u = raster_computed r in (u.0, ap (λ (l : List ℕ). 2 ∷ l) u.1)
 
 -- and a text with no stray byte is a raster of the codes read
-pub raster_rules_lem : (t : List ℕ) → any_of is_stray_of t ≡ false → Raster (pixels t) t
+pub raster_rules_lem : (t : List ℕ) → list_any is_stray_of t ≡ false → Raster (pixels t) t
 raster_rules_lem [] e = no_cell
 raster_rules_lem (c ∷ t) e =
-    let p = cond_false (is_stray_of c) (any_of is_stray_of t) e in
+    let p = or_parts (is_stray_of c) (list_any is_stray_of t) e in
     go (is_space_of c) refl (eqb c 48) refl (eqb c 49) refl p.0 (raster_rules_lem t p.1)
   where
     go : (s : Bool) → is_space_of c ≡ s → (a : Bool) → eqb c 48 ≡ a → (b : Bool) → eqb c 49 ≡ b → (not s && not (cond a true b)) ≡ false
@@ -332,11 +332,11 @@ drawn_computed {n} {codes} {t} d =
 -- and what passes the test follows the rules
 pub drawn_rules : (n : ℕ) (t : List ℕ) → is_drawn_of n t ≡ true → Drawn n (pixels t) t
 drawn_rules n t e =
-    let p = both_true (begins_spaced t) (not (any_of is_stray_of t) && eqb (length (pixels t)) n) e in
-    let q = both_true (not (any_of is_stray_of t)) (eqb (length (pixels t)) n) p.1 in
+    let p = both_true (begins_spaced t) (not (list_any is_stray_of t) && eqb (length (pixels t)) n) e in
+    let q = both_true (not (list_any is_stray_of t)) (eqb (length (pixels t)) n) p.1 in
     record {
       spaced = spaced_rules t p.0;
-      raster = raster_rules_lem t (not-true (any_of is_stray_of t) q.0);
+      raster = raster_rules_lem t (not-true (list_any is_stray_of t) q.0);
       count = eqb-true (length (pixels t)) n q.1;
     }
 
@@ -351,7 +351,7 @@ late room {w} {h} {rest = rest} x g = rw (heading_computed x) (append_fine (side
 pub stage_computed : {room : ℕ} {text : List ℕ} {v : Verdict} → Stage room text v → verdict (read_rules room (heading text)) ≡ v
 stage_computed {room} {text} (no_heading f) = go (heading text) refl
   where
-    go : (o : Option Heading) → heading text ≡ o → verdict (read_rules room o) ≡ Bad BadText
+    go : (o : Option Heading) → heading text ≡ o → verdict (read_rules room o) ≡ Err BadText
     go none e = refl
     go (some t) e = absurd (f t.width t.height t.rest (heading_rules text t e))
 stage_computed {room} (bad_sides {w = w} {h = h} {rest = rest} x f) =
@@ -359,7 +359,7 @@ stage_computed {room} (bad_sides {w = w} {h = h} {rest = rest} x f) =
 stage_computed {room} (no_room {w = w} {h = h} x g l) = late room x g ∙ rw (lt-ltb room (w * h) l)
 stage_computed {room} (not_drawn {w = w} {h = h} {rest = rest} x g l f) = late room x g ∙ rw (le-ltb room (w * h) l) (go (is_drawn_of (w * h) rest) refl)
   where
-    go : (b : Bool) → is_drawn_of (w * h) rest ≡ b → cond (not b) (Bad BadText) Fine ≡ Bad BadText
+    go : (b : Bool) → is_drawn_of (w * h) rest ≡ b → ◌≡◌ {A = Verdict} (cond (not b) (Err BadText) (Ok tt)) (Err BadText)
     go true e = absurd (f (pixels rest) (drawn_rules (w * h) rest e))
     go false e = refl
 stage_computed {room} (a_picture {w = w} {h = h} x g l) = late room x.heading g ∙ rw (le-ltb room (w * h) l, (drawn_computed x.drawn).0)
@@ -369,14 +369,14 @@ pub stage_rules : (room : ℕ) (text : List ℕ) → Stage room text (verdict (r
 stage_rules room text = go (heading text) refl
   where
     last : {w h : ℕ} {rest : List ℕ} → HeadingAt w h text rest → GoodSides w h → (a : Bool) → ltb room (w * h) ≡ a
-        → (b : Bool) → is_drawn_of (w * h) rest ≡ b → Stage room text (cond a (Bad BadRoom) (cond (not b) (Bad BadText) Fine))
+        → (b : Bool) → is_drawn_of (w * h) rest ≡ b → Stage room text (cond a (Err BadRoom) (cond (not b) (Err BadText) (Ok tt)))
     last {w} {h} {rest} x g true p b q = no_room x g (ltb-true room (w * h) p)
     last {w} {h} {rest} x g false p true q =
         a_picture (record { rest = rest; heading = x; drawn = drawn_rules (w * h) rest q }) g (ltb-false room (w * h) p)
     last {w} {h} {rest} x g false p false q =
         not_drawn x g (ltb-false room (w * h) p) (λ codes d. true_not_false (sym (drawn_computed d).0 ∙ q))
 
-    sides : {w h : ℕ} {rest : List ℕ} → HeadingAt w h text rest → (verdict (side_rules w h) ≡ Fine) ⊎ (verdict (side_rules w h) ≡ Bad BadLength)
+    sides : {w h : ℕ} {rest : List ℕ} → HeadingAt w h text rest → (verdict (side_rules w h) ≡ Ok tt) ⊎ (verdict (side_rules w h) ≡ Err BadLength)
         → Stage room text (verdict (side_rules w h ++ raster_rules room (w * h) rest))
     sides {w} {h} {rest} x (inl e) =
         subst (λ (v : Verdict). Stage room text v) (sym (append_fine (side_rules w h) (raster_rules room (w * h) rest) e))

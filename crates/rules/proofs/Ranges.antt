@@ -1,5 +1,6 @@
 -- What the ranges mean: each colour stands once, its first and last index are what their names say, and in every placement every cell of the
 -- colour lies in its range.
+use Rattle.std.specs.Prelude.{◌||◌}
 use mathlib.Core.Path.{◌≡◌, refl, sym, ap, subst, ◌∙◌}
 use mathlib.Core.Bool.{Bool, true, false, cond}
 use mathlib.Core.Logic.{◌⊎◌, inl, inr, ◌≢◌}
@@ -15,7 +16,8 @@ use Rattle.rules.specs.Placement.{one, gap, pieces, Laid, end, blank, piece, Pla
 use Rattle.rules.specs.Packing.{total, starts_from, sums_from}
 use Rattle.rules.proofs.Packings.{laid_long}
 use Rattle.rules.proofs.Tests.{Compared, nat_eq_cases}
-use Rattle.rules.specs.Ranges.{any_of, new_of, first_of, last_of, range_start, range_end}
+use Rattle.std.specs.List.{list_any}
+use Rattle.rules.specs.Ranges.{new_of, first_of, last_of, range_start, range_end}
 
 -- ---- first and last index
 
@@ -66,26 +68,26 @@ last_inside c l h = go (last_in c 0 0 l)
 -- ---- each once
 
 -- what was seen before is not told again
-pub new_not_seen : (c : ℕ) (seen l : List ℕ) → any_of (λ d. eqb d c) seen ≡ true → any_of (λ d. eqb d c) (new_of seen l) ≡ false
+pub new_not_seen : (c : ℕ) (seen l : List ℕ) → list_any (λ d. eqb d c) seen ≡ true → list_any (λ d. eqb d c) (new_of seen l) ≡ false
 new_not_seen c seen [] e = refl
-new_not_seen c seen (d ∷ l) e = go (any_of (λ x. eqb x d) seen) refl (nat_eq_cases d c) (new_not_seen c (seen ++ (d ∷ [])) l (still seen e))
+new_not_seen c seen (d ∷ l) e = go (list_any (λ x. eqb x d) seen) refl (nat_eq_cases d c) (new_not_seen c (seen ++ (d ∷ [])) l (still seen e))
   where
-    still : (s : List ℕ) → any_of (λ x. eqb x c) s ≡ true → any_of (λ x. eqb x c) (s ++ (d ∷ [])) ≡ true
+    still : (s : List ℕ) → list_any (λ x. eqb x c) s ≡ true → list_any (λ x. eqb x c) (s ++ (d ∷ [])) ≡ true
     still [] q = let z : ◌≡◌ {A = ℕ} 0 1 = cc in absurd (omega arith)
     still (x ∷ s) q = step (eqb x c) q (λ r. still s r)
       where
-        step : (t : Bool) → cond t true (any_of (λ x. eqb x c) s) ≡ true
-            → (any_of (λ x. eqb x c) s ≡ true → any_of (λ x. eqb x c) (s ++ (d ∷ [])) ≡ true)
-            → cond t true (any_of (λ x. eqb x c) (s ++ (d ∷ []))) ≡ true
+        step : (t : Bool) → (t || list_any (λ x. eqb x c) s) ≡ true
+            → (list_any (λ x. eqb x c) s ≡ true → list_any (λ x. eqb x c) (s ++ (d ∷ [])) ≡ true)
+            → (t || list_any (λ x. eqb x c) (s ++ (d ∷ []))) ≡ true
         step true r f = refl
         step false r f = f r
 
-    go : (t : Bool) → any_of (λ x. eqb x d) seen ≡ t → Compared d c
-        → any_of (λ x. eqb x c) (new_of (seen ++ (d ∷ [])) l) ≡ false
-        → any_of (λ x. eqb x c) (cond t [] (d ∷ []) ++ new_of (seen ++ (d ∷ [])) l) ≡ false
+    go : (t : Bool) → list_any (λ x. eqb x d) seen ≡ t → Compared d c
+        → list_any (λ x. eqb x c) (new_of (seen ++ (d ∷ [])) l) ≡ false
+        → list_any (λ x. eqb x c) (cond t [] (d ∷ []) ++ new_of (seen ++ (d ∷ [])) l) ≡ false
     go true q p r = r
     go false q (inl p) r =
-        let z : true ≡ false = sym e ∙ ap (λ y. any_of (λ x. eqb x y) seen) (sym p.0) ∙ q in
+        let z : true ≡ false = sym e ∙ ap (λ y. list_any (λ x. eqb x y) seen) (sym p.0) ∙ q in
         let y : ◌≡◌ {A = ℕ} 0 1 = cc in absurd (omega arith)
     go false q (inr p) r = rw p.1 r
 

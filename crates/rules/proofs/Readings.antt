@@ -1,5 +1,6 @@
 -- A picture's codes read as colours: the clue stays, so that every line whose codes are allowed is a placement of its own clue; and read as
 -- black and white, where every line is one.
+use Rattle.std.proofs.lemmas.Bool.{or_parts}
 use Prim.Native.Nat.{ℕ, zero, suc, ◌<◌, ◌*◌}
 use borrow.Author.Tests.{eq-eqb, ne_eqb}
 use lib.Dec.{eqb}
@@ -15,14 +16,14 @@ use Rattle.rules.proofs.Blocks.{legal_colour}
 use Rattle.rules.proofs.Boards.{place_lt}
 use Rattle.rules.proofs.Clues.{clue_runs, runs_clue, clue_run, own_placement}
 use Rattle.rules.proofs.Codes.{proper_codes}
-use Rattle.rules.proofs.Tests.{Compared, nat_eq_cases, cond_false}
+use Rattle.rules.proofs.Tests.{Compared, nat_eq_cases}
 use Rattle.rules.specs.Answer.{Proper}
 use Rattle.rules.specs.Block.{Block, ◌of◌, black, sizes_by, Legal, illegal_colour_of, legal_none, legal_block}
 use Rattle.rules.specs.Board.{len, On, place, tabulate, line_of}
 use Rattle.rules.specs.Clue.{Apart, RunsOf, runs, clue, bad_code_of, read_code, read_binary, black_white, black_clue, Stops, Beside, InksApart, no_code, a_blank, a_run}
 use Rattle.rules.specs.Colour.{Colour}
 use Rattle.rules.specs.Placement.{Placement}
-use Rattle.rules.specs.Ranges.{any_of}
+use Rattle.std.specs.List.{list_any}
 use Rattle.rules.specs.declared.LinePosition.{LinePosition}
 
 -- ---- lists
@@ -61,11 +62,11 @@ module _ (e : ℕ) where
   allowed : (c : ℕ) (l : List ℕ) → bad_code_of e (c ∷ l) ≡ false → c ≢ e → Colour c × (c ≢ 1)
   allowed c l g d =
       legal_colour c
-      (sym (ap (λ t. cond t false (illegal_colour_of c)) (ne_eqb c e d)) ∙ (cond_false (cond (eqb c e) false (illegal_colour_of c)) (bad_code_of e l) g).0)
+      (sym (ap (λ t. cond t false (illegal_colour_of c)) (ne_eqb c e d)) ∙ (or_parts (cond (eqb c e) false (illegal_colour_of c)) (bad_code_of e l) g).0)
 
   rest_good : (n c : ℕ) (l : List ℕ) → bad_code_of e (replicate n c ++ l) ≡ false → bad_code_of e l ≡ false
   rest_good zero c l g = g
-  rest_good (suc n) c l g = rest_good n c l (cond_false (cond (eqb c e) false (illegal_colour_of c)) (bad_code_of e (replicate n c ++ l)) g).1
+  rest_good (suc n) c l g = rest_good n c l (or_parts (cond (eqb c e) false (illegal_colour_of c)) (bad_code_of e (replicate n c ++ l)) g).1
 
   read_apart : (c : ℕ) (l : List ℕ) → c ≢ 1 → Apart c l → Apart c (map (read_code e) l)
   read_apart c [] f a = tt
@@ -169,15 +170,15 @@ module _ (e : ℕ) where
   blank_passed l = rw (eq-eqb e e refl)
 
   -- a stretch of codes that are not blank, whatever they are, is one black block as long, where a blank code or the line's end follows
-  stretch_black : (s : List ℕ) → any_of (λ c. eqb c e) s ≡ false → black_white e s ≡ replicate (length s) 2
+  stretch_black : (s : List ℕ) → list_any (λ c. eqb c e) s ≡ false → black_white e s ≡ replicate (length s) 2
   stretch_black [] g = refl
-  stretch_black (c ∷ s) g = let p = cond_false (eqb c e) (any_of (λ d. eqb d e) s) g in rw p.0 (ap (λ (l : List ℕ). 2 ∷ l) (stretch_black s p.1))
+  stretch_black (c ∷ s) g = let p = or_parts (eqb c e) (list_any (λ d. eqb d e) s) g in rw p.0 (ap (λ (l : List ℕ). 2 ∷ l) (stretch_black s p.1))
 
   stop_apart : (l : List ℕ) → Stops e l → Apart 2 (black_white e l)
   stop_apart [] p = tt
   stop_apart (d ∷ l) p = rw (eq-eqb d e p) (λ u. omega arith)
 
-  pub stretch_counted : (s l : List ℕ) → 0 < length s → any_of (λ c. eqb c e) s ≡ false → Stops e l
+  pub stretch_counted : (s l : List ℕ) → 0 < length s → list_any (λ c. eqb c e) s ≡ false → Stops e l
       → black_clue e (s ++ l) ≡ black (length s) ∷ black_clue e l
   stretch_counted s l h g p =
       ap (clue 1) (map-append (read_binary e) s l ∙ ap (λ (k : List ℕ). k ++ black_white e l) (stretch_black s g))

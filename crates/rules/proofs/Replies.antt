@@ -1,17 +1,14 @@
 -- A reply tells its answer, so that at most one answer, with one content of each list, satisfies the statement of a call that writes lists.
+use Rattle.std.specs.Prelude.{Err, Ok, Result}
+use Rattle.rules.specs.Refusal.{refusal_number_of, Rule, verdict, reply, list_reply, written, Writes, WritesBlocks, Verdict}
 use mathlib.Core.Path.{◌≡◌, refl, sym, ap, ◌∙◌}
 use mathlib.Core.List.{List, [], ◌∷◌}
 use Prim.Native.Nat.{ℕ}
 use native.Mathlib.Omega.{arith}
 use lib.ListN.{length, get_or}
 use Rattle.rules.specs.Block.{Block, sizes_by, colours_by}
-use Rattle.rules.specs.Refusal.{refusal_number_of, Rule, verdict, reply, list_reply, written, Writes, WritesBlocks}
 use Rattle.rules.specs.declared.Refusal.{Refusal}
 use Rattle.rules.specs.declared.Refusal.TheVariants.{BadLength, BadRoom, TooManyBlocks, BadBlock, BadCell, OutsideGrid, ShortReport, BadCode, NoSpace, BadText}
-use Rattle.rules.specs.declared.Verdict.{Verdict}
-use Rattle.rules.specs.declared.Verdict.TheVariants.{Fine, Bad}
-use Rattle.rules.specs.declared.ListAnswer.{ListAnswer}
-use Rattle.rules.specs.declared.ListAnswer.TheVariants.{Done, Refused}
 
 -- the refusal of a number
 abbrev by_number : ℕ → Refusal
@@ -51,16 +48,16 @@ by_checking BadText = (λ e. omega arith, λ e. omega arith)
 pub head_one : {a b : ℕ} {l m : List ℕ} → a ∷ l ≡ b ∷ m → a ≡ b
 head_one e = cc
 
-pub list_reply_one : (r s : ListAnswer) → list_reply r ≡ list_reply s → r ≡ s
-list_reply_one (Done m) (Done n) e = cc
-list_reply_one (Done m) (Refused u) e = let h = ap length e in absurd (omega arith)
-list_reply_one (Refused w) (Done n) e = let h = ap length e in absurd (omega arith)
-list_reply_one (Refused w) (Refused u) e = ap (λ x. Refused x) (number_one w u (head_one e))
+pub list_reply_one : (r s : Result ℕ Refusal) → list_reply r ≡ list_reply s → r ≡ s
+list_reply_one (Ok m) (Ok n) e = cc
+list_reply_one (Ok m) (Err u) e = let h = ap length e in absurd (omega arith)
+list_reply_one (Err w) (Ok n) e = let h = ap length e in absurd (omega arith)
+list_reply_one (Err w) (Err u) e = ap (λ x. Err x) (number_one w u (head_one e))
 
 -- a call that counted its entries was refused by no rule
-pub done_count : (v : Verdict) {n m : ℕ} → list_reply (Done n) ≡ reply v (m ∷ []) → (v ≡ Fine) × (n ≡ m)
-done_count Fine e = (refl, cc)
-done_count (Bad w) e = let h = ap length e in absurd (omega arith)
+pub done_count : (v : Verdict) {n m : ℕ} → list_reply (Ok n) ≡ reply v (m ∷ []) → (v ≡ Ok tt) × (n ≡ m)
+done_count (Ok _) e = (refl, cc)
+done_count (Err w) e = let h = ap length e in absurd (omega arith)
 
 -- ---- one answer
 
@@ -68,10 +65,10 @@ done_count (Bad w) e = let h = ap length e in absurd (omega arith)
 pub same : {A : Type 0} {a b d : A} → a ≡ d → b ≡ d → a ≡ b
 same p q = p ∙ sym q
 
-pub one_list : {rules : List Rule} {vs out a b : List ℕ} {r s : ListAnswer} → Writes rules vs out r a → Writes rules vs out s b → (r ≡ s) × (a ≡ b)
+pub one_list : {rules : List Rule} {vs out a b : List ℕ} {r s : Result ℕ Refusal} → Writes rules vs out r a → Writes rules vs out s b → (r ≡ s) × (a ≡ b)
 one_list {r = r} {s = s} x y = (list_reply_one r s (same x.answers y.answers), same x.leaves y.leaves)
 
-pub two_lists : {rules : List Rule} {bs : List Block} {o p a b d e : List ℕ} {r s : ListAnswer} → WritesBlocks rules bs o p r a d
+pub two_lists : {rules : List Rule} {bs : List Block} {o p a b d e : List ℕ} {r s : Result ℕ Refusal} → WritesBlocks rules bs o p r a d
     → WritesBlocks rules bs o p s b e
     → (r ≡ s) × (a ≡ b) × (d ≡ e)
 two_lists {r = r} {s = s} x y =
@@ -79,17 +76,17 @@ two_lists {r = r} {s = s} x y =
 
 -- ---- the statement, from the verdict and from what was written
 
-pub writes_refused : {rules : List Rule} {w : Refusal} {vs out : List ℕ} → verdict rules ≡ Bad w → Writes rules vs out (Refused w) out
+pub writes_refused : {rules : List Rule} {w : Refusal} {vs out : List ℕ} → verdict rules ≡ Err w → Writes rules vs out (Err w) out
 writes_refused e = record { answers = rw e; leaves = rw e }
 
-pub writes_done : {rules : List Rule} {vs out out' : List ℕ} {n : ℕ} → verdict rules ≡ Fine → n ≡ length vs → out' ≡ written vs out
-    → Writes rules vs out (Done n) out'
+pub writes_done : {rules : List Rule} {vs out out' : List ℕ} {n : ℕ} → verdict rules ≡ Ok tt → n ≡ length vs → out' ≡ written vs out
+    → Writes rules vs out (Ok n) out'
 writes_done e l q = record { answers = rw (e, l); leaves = rw e q }
 
-pub blocks_refused : {rules : List Rule} {w : Refusal} {bs : List Block} {s c : List ℕ} → verdict rules ≡ Bad w
-    → WritesBlocks rules bs s c (Refused w) s c
+pub blocks_refused : {rules : List Rule} {w : Refusal} {bs : List Block} {s c : List ℕ} → verdict rules ≡ Err w
+    → WritesBlocks rules bs s c (Err w) s c
 blocks_refused e = record { answers = rw e; size_list = rw e; colour_list = rw e }
 
-pub blocks_done : {rules : List Rule} {bs : List Block} {s c s' c' : List ℕ} {n : ℕ} → verdict rules ≡ Fine → n ≡ length bs
-    → s' ≡ written (sizes_by bs) s → c' ≡ written (colours_by bs) c → WritesBlocks rules bs s c (Done n) s' c'
+pub blocks_done : {rules : List Rule} {bs : List Block} {s c s' c' : List ℕ} {n : ℕ} → verdict rules ≡ Ok tt → n ≡ length bs
+    → s' ≡ written (sizes_by bs) s → c' ≡ written (colours_by bs) c → WritesBlocks rules bs s c (Ok n) s' c'
 blocks_done e l p q = record { answers = rw (e, l); size_list = rw e p; colour_list = rw e q }

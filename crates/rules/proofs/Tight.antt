@@ -12,7 +12,8 @@ use lib.Seq.{get_or-append-add}
 use Rattle.rules.specs.Block.{Block, Legal, legal_none, legal_block, sizes_by, colours_by}
 use Rattle.rules.specs.Placement.{gap, pieces, Laid, end, blank, piece, Placement}
 use Rattle.rules.specs.Packing.{total, minimal_space, starts_from, sums_from}
-use Rattle.rules.specs.Ranges.{any_of, new_of, first_of, last_of, range_start, range_end, RangeOf}
+use Rattle.std.specs.List.{list_any}
+use Rattle.rules.specs.Ranges.{new_of, first_of, last_of, range_start, range_end, RangeOf}
 use Rattle.rules.proofs.Packings.{blank_line}
 use Rattle.rules.proofs.Ranges.{starts_low, starts_mono, first_least, last_most, last_inside, in_range}
 use Rattle.rules.proofs.Tests.{Compared, nat_eq_cases, below?}
@@ -216,7 +217,7 @@ range_one {bs} {n} {c} d p q = (omega (arith, low p q, low q p), omega (arith, h
 
 pub new_from : (seen l : List ℕ) (i : ℕ) → i < length (new_of seen l) → (k : ℕ) × (k < length l) × (get_or l k 0 ≡ get_or (new_of seen l) i 0)
 new_from seen [] i h = absurd (omega arith)
-new_from seen (c ∷ l) i h = go (any_of (λ d. eqb d c) seen) i h (λ j u. new_from (seen ++ (c ∷ [])) l j u)
+new_from seen (c ∷ l) i h = go (list_any (λ d. eqb d c) seen) i h (λ j u. new_from (seen ++ (c ∷ [])) l j u)
   where
     go : (t : Bool) (i : ℕ) → i < length (cond t [] (c ∷ []) ++ new_of (seen ++ (c ∷ [])) l)
         → ((j : ℕ) → j < length (new_of (seen ++ (c ∷ [])) l) → (k : ℕ) × (k < length l) × (get_or l k 0 ≡ get_or (new_of (seen ++ (c ∷ [])) l) j 0))

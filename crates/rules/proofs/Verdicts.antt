@@ -1,4 +1,6 @@
 -- What a verdict tells: it names the lowest number of a broken rule, and a call's reply tells its answer.
+use Rattle.std.specs.Prelude.{Err, Ok}
+use Rattle.rules.specs.Refusal.{refusal_number_of, Rule, ◌when◌, verdict, ascending, Lowest, length_rules, GoodSides, side_rules, count_rules, block_rules, cell_rules, Verdict}
 use mathlib.Core.Path.{◌≡◌, refl, sym, ap, subst, ◌∙◌}
 use mathlib.Core.Logic.{◌⊎◌, inl, inr, ⊎_elim}
 use mathlib.Core.Bool.{Bool, true, false, cond, not}
@@ -10,37 +12,34 @@ use borrow.Author.Tests.{ne_eqb, le-ltb, eqb-false, ltb-false, not-false, leb-tr
 use lib.Dec.{eqb, ltb, leb}
 use lib.ListN.{length, get_or, length-map}
 use Rattle.rules.specs.Block.{Lent, black, blocks, coloured, binary, illegal}
-use Rattle.rules.specs.Ranges.{any_of}
-use Rattle.rules.specs.Refusal.{refusal_number_of, Rule, ◌when◌, verdict, ascending, Lowest, length_rules, GoodSides, side_rules, count_rules, block_rules, cell_rules}
+use Rattle.std.specs.List.{list_any}
 use Rattle.rules.specs.declared.Refusal.{Refusal}
 use Rattle.rules.specs.declared.Refusal.TheVariants.{BadLength, BadRoom, TooManyBlocks, BadBlock, BadCell}
-use Rattle.rules.specs.declared.Verdict.{Verdict}
-use Rattle.rules.specs.declared.Verdict.TheVariants.{Fine, Bad}
 use Rattle.rules.proofs.Searching.{not_above}
 use Rattle.rules.proofs.Tests.{Compared, both_true, nat_eq_cases}
 use Rattle.rules.proofs.Blocks.{length_blocks}
 
-pub bad_not_fine : {w : Refusal} → Bad w ≡ Fine → ⊥
+pub bad_not_fine : {w : Refusal} → ◌≡◌ {A = Verdict} (Err w) (Ok tt) → ⊥
 bad_not_fine e = let z : ◌≡◌ {A = ℕ} 0 1 = cc in omega arith
 
-pub bad_one : {w u : Refusal} → Bad w ≡ Bad u → w ≡ u
+pub bad_one : {w u : Refusal} → ◌≡◌ {A = Verdict} (Err w) (Err u) → w ≡ u
 bad_one e = cc
 
 -- ---- a verdict names the lowest number of a broken rule, and there is none exactly if no rule is broken
 
 module _ (r : Rule) (rs : List Rule) where
-  pub fine_cons : verdict (r ∷ rs) ≡ Fine → (r.broken ≡ false) × (verdict rs ≡ Fine)
+  pub fine_cons : verdict (r ∷ rs) ≡ Ok tt → (r.broken ≡ false) × (verdict rs ≡ Ok tt)
   fine_cons e = go r.broken e
     where
-      go : (t : Bool) → cond t (Bad r.refusal) (verdict rs) ≡ Fine → (t ≡ false) × (verdict rs ≡ Fine)
+      go : (t : Bool) → cond t (Err r.refusal) (verdict rs) ≡ Ok tt → (t ≡ false) × (verdict rs ≡ Ok tt)
       go true q = absurd (bad_not_fine q)
       go false q = (refl, q)
 
-pub verdict_fine : (rs : List Rule) → verdict rs ≡ Fine → (r : Rule) → Memᴰ r rs → r.broken ≡ false
+pub verdict_fine : (rs : List Rule) → verdict rs ≡ Ok tt → (r : Rule) → Memᴰ r rs → r.broken ≡ false
 verdict_fine [] e r m = absurd (Memᴰ.not-nil m)
 verdict_fine (q ∷ rs) e r m = go (fine_cons q rs e) (verdict_fine rs) (Memᴰ.cases_cons m)
   where
-    go : (q.broken ≡ false) × (verdict rs ≡ Fine) → (verdict rs ≡ Fine → (r : Rule) → Memᴰ r rs → r.broken ≡ false)
+    go : (q.broken ≡ false) × (verdict rs ≡ Ok tt) → (verdict rs ≡ Ok tt → (r : Rule) → Memᴰ r rs → r.broken ≡ false)
         → (r ≡ q) ⊎ Memᴰ r rs → r.broken ≡ false
     go p up (inl u) = ap (λ (x : Rule). x.broken) u ∙ p.0
     go p up (inr n) = up p.1 r n
@@ -58,14 +57,14 @@ ascending_low n (q ∷ rs) e r m =
     go p up (inl u) = subst (λ (x : Rule). n ≤ refusal_number_of x.refusal) (sym u) (leb-true n (refusal_number_of q.refusal) p.0)
     go p up (inr k) = omega (arith, leb-true n (refusal_number_of q.refusal) p.0, up p.1 r k)
 
-pub verdict_lowest : (n : ℕ) (rs : List Rule) {w : Refusal} → ascending n rs ≡ true → verdict rs ≡ Bad w → Lowest rs w
+pub verdict_lowest : (n : ℕ) (rs : List Rule) {w : Refusal} → ascending n rs ≡ true → verdict rs ≡ Err w → Lowest rs w
 verdict_lowest n [] a e = absurd (bad_not_fine (sym e))
 verdict_lowest n (q ∷ rs) {w} a e =
     go q.broken refl e (both_true (leb n (refusal_number_of q.refusal)) (ascending (refusal_number_of q.refusal) rs) a).1
     (λ b u. verdict_lowest (refusal_number_of q.refusal) rs b u)
   where
-    go : (t : Bool) → q.broken ≡ t → cond t (Bad q.refusal) (verdict rs) ≡ Bad w → ascending (refusal_number_of q.refusal) rs ≡ true
-        → (ascending (refusal_number_of q.refusal) rs ≡ true → verdict rs ≡ Bad w → Lowest rs w) → Lowest (q ∷ rs) w
+    go : (t : Bool) → q.broken ≡ t → cond t (Err q.refusal) (verdict rs) ≡ Err w → ascending (refusal_number_of q.refusal) rs ≡ true
+        → (ascending (refusal_number_of q.refusal) rs ≡ true → verdict rs ≡ Err w → Lowest rs w) → Lowest (q ∷ rs) w
     go true b u s up =
         record { rule = q; among = Memᴰ.head refl; is = bad_one u; broken = b; lower = λ r m h. absurd (low r h (Memᴰ.cases_cons m)) }
       where
@@ -85,8 +84,8 @@ verdict_lowest n (q ∷ rs) {w} a e =
 
 -- the first of two verdicts that is not fine
 abbrev pub ◌then◌ : Verdict → Verdict → Verdict
-◌then◌ Fine v = v
-◌then◌ (Bad w) v = Bad w
+◌then◌ (Ok _) v = v
+◌then◌ (Err w) v = Err w
 
 infixr 30 ◌then◌
 pub verdict_append : (xs ys : List Rule) → verdict (xs ++ ys) ≡ verdict xs then verdict ys
@@ -94,57 +93,57 @@ verdict_append [] ys = refl
 verdict_append (r ∷ xs) ys = go r.broken (verdict_append xs ys)
   where
     go : (t : Bool) → verdict (xs ++ ys) ≡ verdict xs then verdict ys
-        → cond t (Bad r.refusal) (verdict (xs ++ ys)) ≡ cond t (Bad r.refusal) (verdict xs) then verdict ys
+        → cond t (Err r.refusal) (verdict (xs ++ ys)) ≡ cond t (Err r.refusal) (verdict xs) then verdict ys
     go true e = refl
     go false e = e
 
-pub then_fine : (u v : Verdict) → u then v ≡ Fine → (u ≡ Fine) × (v ≡ Fine)
-then_fine Fine v e = (refl, e)
-then_fine (Bad w) v e = absurd (bad_not_fine e)
+pub then_fine : (u v : Verdict) → u then v ≡ Ok tt → (u ≡ Ok tt) × (v ≡ Ok tt)
+then_fine (Ok _) v e = (refl, e)
+then_fine (Err w) v e = absurd (bad_not_fine e)
 
 -- a list of rules after another: the first that is broken decides
 module _ (xs ys : List Rule) where
-  pub append_bad : {w : Refusal} → verdict xs ≡ Bad w → verdict (xs ++ ys) ≡ Bad w
+  pub append_bad : {w : Refusal} → verdict xs ≡ Err w → verdict (xs ++ ys) ≡ Err w
   append_bad e = verdict_append xs ys ∙ rw e
 
-  pub append_fine : verdict xs ≡ Fine → verdict (xs ++ ys) ≡ verdict ys
+  pub append_fine : verdict xs ≡ Ok tt → verdict (xs ++ ys) ≡ verdict ys
   append_fine e = verdict_append xs ys ∙ rw e
 
-  pub append_parts : verdict (xs ++ ys) ≡ Fine → (verdict xs ≡ Fine) × (verdict ys ≡ Fine)
+  pub append_parts : verdict (xs ++ ys) ≡ Ok tt → (verdict xs ≡ Ok tt) × (verdict ys ≡ Ok tt)
   append_parts e = then_fine (verdict xs) (verdict ys) (sym (verdict_append xs ys) ∙ e)
 
 -- ---- what no refusal tells
 
-pub length_fine : (n : ℕ) → verdict (length_rules n) ≡ Fine → (0 < n) × (n ≤ 64)
+pub length_fine : (n : ℕ) → verdict (length_rules n) ≡ Ok tt → (0 < n) × (n ≤ 64)
 length_fine n e =
     let a = fine_cons (BadLength when eqb n 0) (BadLength when ltb 64 n ∷ []) e in
     let z = eqb-false n 0 a.0 in
     (omega (arith, z), ltb-false 64 n (fine_cons (BadLength when ltb 64 n) [] a.1).0)
 
-pub sides_fine : (w h : ℕ) → verdict (side_rules w h) ≡ Fine → GoodSides w h
+pub sides_fine : (w h : ℕ) → verdict (side_rules w h) ≡ Ok tt → GoodSides w h
 sides_fine w h q =
     let a = append_parts (length_rules w) (length_rules h) q in
     let x = length_fine w a.0 in
     let y = length_fine h a.1 in
     (x.0, x.1, y.0, y.1)
 
-pub sides_good : (w h : ℕ) → GoodSides w h → verdict (side_rules w h) ≡ Fine
+pub sides_good : (w h : ℕ) → GoodSides w h → verdict (side_rules w h) ≡ Ok tt
 sides_good w h g = rw (ne_eqb w 0 (λ e. omega (arith, g.0)), le-ltb 64 w g.1, ne_eqb h 0 (λ e. omega (arith, g.2)), le-ltb 64 h g.3)
 
 -- both sides are allowed, or the refusal is 1
-pub sides_cases : (w h : ℕ) → (verdict (side_rules w h) ≡ Fine) ⊎ (verdict (side_rules w h) ≡ Bad BadLength)
+pub sides_cases : (w h : ℕ) → (verdict (side_rules w h) ≡ Ok tt) ⊎ (verdict (side_rules w h) ≡ Err BadLength)
 sides_cases w h = go (eqb w 0) (ltb 64 w) (eqb h 0) (ltb 64 h)
   where
     go : (a b c d : Bool)
-        → (verdict (BadLength when a ∷ BadLength when b ∷ BadLength when c ∷ BadLength when d ∷ []) ≡ Fine)
-        ⊎ (verdict (BadLength when a ∷ BadLength when b ∷ BadLength when c ∷ BadLength when d ∷ []) ≡ Bad BadLength)
+        → (verdict (BadLength when a ∷ BadLength when b ∷ BadLength when c ∷ BadLength when d ∷ []) ≡ Ok tt)
+        ⊎ (verdict (BadLength when a ∷ BadLength when b ∷ BadLength when c ∷ BadLength when d ∷ []) ≡ Err BadLength)
     go true b c d = inr refl
     go false true c d = inr refl
     go false false true d = inr refl
     go false false false true = inr refl
     go false false false false = inl refl
 
-pub sides_bad : (w h : ℕ) → ((0 < w) × (w ≤ 64) × (0 < h) × (h ≤ 64) → ⊥) → verdict (side_rules w h) ≡ Bad BadLength
+pub sides_bad : (w h : ℕ) → ((0 < w) × (w ≤ 64) × (0 < h) × (h ≤ 64) → ⊥) → verdict (side_rules w h) ≡ Err BadLength
 sides_bad w h n = ⊎_elim (λ e. absurd (n (sides_fine w h e))) (λ e. e) (sides_cases w h)
 
 -- what the rules on lists of blocks leave
@@ -153,7 +152,7 @@ pub record Counted (paired : Bool) (count : ℕ) (roomy : Bool) : Type 0 where
   pub room : roomy ≡ true
   pub few : count ≤ 64
 
-pub count_fine : (paired : Bool) (count : ℕ) (roomy : Bool) → verdict (count_rules paired count roomy) ≡ Fine → Counted paired count roomy
+pub count_fine : (paired : Bool) (count : ℕ) (roomy : Bool) → verdict (count_rules paired count roomy) ≡ Ok tt → Counted paired count roomy
 count_fine paired count roomy e =
     let r3 = TooManyBlocks when ltb 64 count in
     let p = fine_cons (BadRoom when not paired) (BadRoom when not roomy ∷ r3 ∷ []) e in
@@ -165,7 +164,7 @@ pub record Blocked (b : Lent) (roomy : Bool) : Type 0 where
   pub counted : Counted b.paired (length b.list) roomy
   pub legal : illegal b.list ≡ false
 
-pub blocks_fine : (b : Lent) (roomy : Bool) → verdict (block_rules b roomy) ≡ Fine → Blocked b roomy
+pub blocks_fine : (b : Lent) (roomy : Bool) → verdict (block_rules b roomy) ≡ Ok tt → Blocked b roomy
 blocks_fine b roomy e =
     let rs = count_rules b.paired (length b.list) roomy in
     let r4 = BadBlock when illegal b.list in
@@ -173,10 +172,10 @@ blocks_fine b roomy e =
     record { counted = count_fine b.paired (length b.list) roomy p.0; legal = (fine_cons r4 [] p.1).0 }
 
 -- no cell is above 2
-pub cells_fine : (cells : List ℕ) → verdict (cell_rules cells) ≡ Fine → (i : ℕ) → get_or cells i 0 ≤ 2
-cells_fine cells e = not_above 2 cells (fine_cons (BadCell when any_of (λ c. ltb 2 c) cells) [] e).0
+pub cells_fine : (cells : List ℕ) → verdict (cell_rules cells) ≡ Ok tt → (i : ℕ) → get_or cells i 0 ≤ 2
+cells_fine cells e = not_above 2 cells (fine_cons (BadCell when list_any (λ c. ltb 2 c) cells) [] e).0
 
-pub pair_fine : (ns cs : List ℕ) (roomy : Bool) → verdict (block_rules (coloured ns cs) roomy) ≡ Fine → (length ns ≡ length cs) × (length ns ≤ 64)
+pub pair_fine : (ns cs : List ℕ) (roomy : Bool) → verdict (block_rules (coloured ns cs) roomy) ≡ Ok tt → (length ns ≡ length cs) × (length ns ≤ 64)
 pair_fine ns cs roomy e =
     let k = blocks_fine (coloured ns cs) roomy e in
     let q = eqb-true (length ns) (length cs) k.counted.one_length in

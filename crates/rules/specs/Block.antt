@@ -1,5 +1,6 @@
 -- Blocks, which of them are legal, and the lists that lend them.
-use Rattle.std.specs.Prelude.{◌≢◌, Bool, true, false, cond, not, List, [], ◌∷◌, map, ℕ, ◌<◌, eqb, length}
+use Rattle.std.specs.Prelude.{◌≢◌, Bool, true, cond, not, List, [], ◌∷◌, map, ℕ, ◌<◌, eqb, length}
+use Rattle.std.specs.List.{list_any}
 use Rattle.std.specs.Int.Count.{ones}
 use Rattle.rules.specs.Colour.{Colour}
 
@@ -48,8 +49,7 @@ abbrev pub illegal_block : ℕ → ℕ → Bool
 illegal_block n c = cond (eqb n 0) true (illegal_colour_of c)
 
 abbrev pub illegal : List Block → Bool
-illegal [] = false
-illegal (b ∷ bs) = cond (illegal_block b.size b.colour) true (illegal bs)
+illegal = list_any (λ b. illegal_block b.size b.colour)
 
 -- ---- a line's blocks as they are lent: in two lists, which have to have one length, or in one list of sizes
 

@@ -1,7 +1,7 @@
 -- The rules 1 to 4 of a card, and of what is lent with it for a run: the grid, the memo and the stack.
 use Rattle.std.specs.Prelude.{Bool, not, ◌&&◌, List, [], ◌∷◌, ◌++◌, ℕ, ◌*◌, eqb, ltb, leb, length}
 use Rattle.rules.specs.Block.{blocks, illegal}
-use Rattle.rules.specs.Ranges.{any_of}
+use Rattle.std.specs.List.{list_any}
 use Rattle.rules.specs.Card.{Card, sum}
 use Rattle.rules.specs.Refusal.{Rule, ◌when◌, side_rules, memo_size, stack_size}
 use Rattle.rules.specs.declared.Refusal.TheVariants.{BadRoom, TooManyBlocks, BadBlock}
@@ -16,7 +16,7 @@ room_fits w h cells memo stack = eqb cells (w * h) && (leb memo_size memo && leb
 
 -- some line has more than 64 blocks
 abbrev pub crowded : List ℕ → Bool
-crowded counts = any_of (λ n. ltb 64 n) counts
+crowded counts = list_any (λ n. ltb 64 n) counts
 
 -- 1: a side; 2: a list has the wrong length or too little room; 3: a line has too many blocks; 4: a block is not legal
 abbrev pub card_rules : ℕ → ℕ → ℕ → Card → ℕ → ℕ → List Rule

@@ -2,7 +2,7 @@
 use Rattle.std.specs.Prelude.{◌≡◌, ◌⊎◌, ◌≢◌, Bool, true, false, cond, List, [], ◌∷◌, ◌++◌, map, ℕ, suc, ◌<◌, eqb, replicate}
 use Rattle.std.proofs.Math.Option.{Option, none, some}
 use Rattle.rules.specs.Block.{Block, ◌of◌, illegal_colour_of}
-use Rattle.rules.specs.Ranges.{any_of}
+use Rattle.std.specs.List.{list_any}
 
 -- the line does not begin with the code c
 abbrev pub Apart : ℕ → List ℕ → Type 0
@@ -50,7 +50,7 @@ clue e l = runs e none l
 
 -- coloured: a code that is not blank is 1, or has not exactly one bit
 abbrev pub bad_code_of : ℕ → List ℕ → Bool
-bad_code_of e l = any_of (λ c. cond (eqb c e) false (illegal_colour_of c)) l
+bad_code_of e l = list_any (λ c. cond (eqb c e) false (illegal_colour_of c)) l
 
 -- ---- a picture's codes as colours
 

@@ -1,12 +1,10 @@
 -- Plain PBM, byte by byte: what the text of a picture is, by rules and as a reader computes it, and the one form in which a picture is
 -- written. The digit 1 is black, code 2; the digit 0 is white, code 1.
-use Rattle.std.specs.Prelude.{◌≡◌, Bool, true, false, cond, not, ◌&&◌, List, [], ◌∷◌, ◌++◌, map, ℕ, zero, suc, ◌+◌, ◌*◌, ◌-◌, ◌/◌, ◌%◌, ◌≤◌, ◌<◌, eqb, ltb, leb, length, take, drop}
+use Rattle.std.specs.Prelude.{◌≡◌, Bool, true, false, cond, not, ◌&&◌, List, [], ◌∷◌, ◌++◌, map, ℕ, zero, suc, ◌+◌, ◌*◌, ◌-◌, ◌/◌, ◌%◌, ◌≤◌, ◌<◌, eqb, ltb, leb, length, take, drop, Err, Ok}
+use Rattle.rules.specs.Refusal.{Rule, ◌when◌, GoodSides, side_rules, Verdict}
 use Rattle.std.proofs.Math.Option.{Option, none, some}
-use Rattle.rules.specs.Ranges.{any_of}
-use Rattle.rules.specs.Refusal.{Rule, ◌when◌, GoodSides, side_rules}
+use Rattle.std.specs.List.{list_any}
 use Rattle.rules.specs.declared.Refusal.TheVariants.{BadLength, BadRoom, BadCode, BadText}
-use Rattle.rules.specs.declared.Verdict.{Verdict}
-use Rattle.rules.specs.declared.Verdict.TheVariants.{Fine, Bad}
 
 -- ---- bytes
 
@@ -31,7 +29,7 @@ is_pixel_of c = cond (eqb c 48) true (eqb c 49)
 pub data Filler : List ℕ → Type 0 where
   no_filler : Filler []
   a_space : {c : ℕ} {t : List ℕ} → is_space_of c ≡ true → Filler t → Filler (c ∷ t)
-  a_comment : (l : List ℕ) (e : ℕ) {t : List ℕ} → any_of is_line_end l ≡ false → is_line_end e ≡ true → Filler t → Filler (35 ∷ (l ++ (e ∷ t)))
+  a_comment : (l : List ℕ) (e : ℕ) {t : List ℕ} → list_any is_line_end l ≡ false → is_line_end e ≡ true → Filler t → Filler (35 ∷ (l ++ (e ∷ t)))
 
 -- the text begins with whitespace
 abbrev pub Spaced : List ℕ → Type 0
@@ -88,12 +86,12 @@ pub record TextOf (w h : ℕ) (codes text : List ℕ) : Type 0 where
 -- how a text is judged where there is room for so many codes, stage by stage: 11 for a break before both sizes are read; then 1, then 2 for
 -- the room; then 11 for any other break
 pub data Stage (room : ℕ) (text : List ℕ) : Verdict → Type 0 where
-  no_heading : ((w h : ℕ) (rest : List ℕ) → HeadingAt w h text rest → ⊥) → Stage room text (Bad BadText)
-  bad_sides : {w h : ℕ} {rest : List ℕ} → HeadingAt w h text rest → (GoodSides w h → ⊥) → Stage room text (Bad BadLength)
-  no_room : {w h : ℕ} {rest : List ℕ} → HeadingAt w h text rest → GoodSides w h → room < w * h → Stage room text (Bad BadRoom)
+  no_heading : ((w h : ℕ) (rest : List ℕ) → HeadingAt w h text rest → ⊥) → Stage room text (Err BadText)
+  bad_sides : {w h : ℕ} {rest : List ℕ} → HeadingAt w h text rest → (GoodSides w h → ⊥) → Stage room text (Err BadLength)
+  no_room : {w h : ℕ} {rest : List ℕ} → HeadingAt w h text rest → GoodSides w h → room < w * h → Stage room text (Err BadRoom)
   not_drawn : {w h : ℕ} {rest : List ℕ} → HeadingAt w h text rest → GoodSides w h → w * h ≤ room → ((codes : List ℕ) → Drawn (w * h) codes rest → ⊥)
-      → Stage room text (Bad BadText)
-  a_picture : {w h : ℕ} {codes : List ℕ} → TextOf w h codes text → GoodSides w h → w * h ≤ room → Stage room text Fine
+      → Stage room text (Err BadText)
+  a_picture : {w h : ℕ} {codes : List ℕ} → TextOf w h codes text → GoodSides w h → w * h ≤ room → Stage room text (Ok tt)
 
 -- ---- the same computed, byte by byte
 
@@ -165,7 +163,7 @@ begins_spaced [] = false
 begins_spaced (c ∷ t) = is_space_of c
 
 abbrev pub is_drawn_of : ℕ → List ℕ → Bool
-is_drawn_of n t = begins_spaced t && (not (any_of is_stray_of t) && eqb (length (pixels t)) n)
+is_drawn_of n t = begins_spaced t && (not (list_any is_stray_of t) && eqb (length (pixels t)) n)
 
 -- the rules of reading, stage by stage: on what follows the height, where n cells are wanted; and all of them
 abbrev pub raster_rules : ℕ → ℕ → List ℕ → List Rule
@@ -216,7 +214,7 @@ is_other c = cond (eqb c 1) false (not (eqb c 2))
 -- the rules on codes, where the text has so much room; and all rules of writing
 abbrev pub ink_rules : ℕ → ℕ → List ℕ → ℕ → List Rule
 ink_rules w h b room =
-    BadRoom when not (eqb (length b) (w * h)) ∷ BadRoom when ltb room (length (pbm_text w h b)) ∷ BadCode when any_of is_other b ∷ []
+    BadRoom when not (eqb (length b) (w * h)) ∷ BadRoom when ltb room (length (pbm_text w h b)) ∷ BadCode when list_any is_other b ∷ []
 
 abbrev pub write_rules : ℕ → ℕ → List ℕ → ℕ → List Rule
 write_rules w h b room = side_rules w h ++ ink_rules w h b room

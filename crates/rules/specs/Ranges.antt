@@ -1,18 +1,14 @@
 -- The range of each colour of a line: from the leftmost start of its first block to the leftmost end of its last plus the slack.
-use Rattle.std.specs.Prelude.{◌≡◌, Bool, true, false, cond, List, [], ◌∷◌, ◌++◌, ℕ, suc, ◌+◌, ◌-◌, ◌≤◌, ◌<◌, eqb, get_or}
+use Rattle.std.specs.Prelude.{◌≡◌, cond, List, [], ◌∷◌, ◌++◌, ℕ, suc, ◌+◌, ◌-◌, ◌≤◌, ◌<◌, eqb, get_or}
+use Rattle.std.specs.List.{list_any}
 use Rattle.rules.specs.Block.{Block, colours_by}
 use Rattle.rules.specs.Placement.{Placement}
 use Rattle.rules.specs.Packing.{minimal_space, starts_from, sums_from}
 
--- some number of the list passes the test
-abbrev pub any_of : (ℕ → Bool) → List ℕ → Bool
-any_of f [] = false
-any_of f (d ∷ l) = cond (f d) true (any_of f l)
-
 -- the numbers of a list, each once, by first appearance, but for those seen before
 abbrev pub new_of : List ℕ → List ℕ → List ℕ
 new_of seen [] = []
-new_of seen (c ∷ l) = cond (any_of (λ d. eqb d c) seen) [] (c ∷ []) ++ new_of (seen ++ (c ∷ [])) l
+new_of seen (c ∷ l) = cond (list_any (λ d. eqb d c) seen) [] (c ∷ []) ++ new_of (seen ++ (c ∷ [])) l
 
 -- the index of the first c of a list
 abbrev pub first_of : ℕ → List ℕ → ℕ

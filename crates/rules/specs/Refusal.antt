@@ -1,15 +1,11 @@
 -- Refusals: the documents' numbers, the rules of a call in their order, and what a call leaves in the lists that it is lent.
-use Rattle.std.specs.Prelude.{◌≡◌, Bool, true, false, cond, not, ◌&&◌, ℕ, ◌<◌, ◌≤◌, eqb, ltb, leb, length, drop}
+use Rattle.std.specs.Prelude.{◌≡◌, ⊤, Bool, true, false, cond, not, ◌&&◌, ℕ, ◌<◌, ◌≤◌, eqb, ltb, leb, length, drop, Result, Ok, Err}
 use mathlib.Core.List.{List, [], ◌∷◌, ◌++◌, Memᴰ}
 use Rattle.rules.specs.Block.{Block, Lent, illegal, sizes_by, colours_by}
 use Rattle.rules.specs.Packing.{minimal_space}
-use Rattle.rules.specs.Ranges.{any_of}
+use Rattle.std.specs.List.{list_any}
 use Rattle.rules.specs.declared.Refusal.{Refusal}
 use Rattle.rules.specs.declared.Refusal.TheVariants.{BadLength, BadRoom, TooManyBlocks, BadBlock, BadCell, OutsideGrid, ShortReport, BadCode, NoSpace, BadText}
-use Rattle.rules.specs.declared.Verdict.{Verdict}
-use Rattle.rules.specs.declared.Verdict.TheVariants.{Fine, Bad}
-use Rattle.rules.specs.declared.ListAnswer.{ListAnswer}
-use Rattle.rules.specs.declared.ListAnswer.TheVariants.{Done, Refused}
 
 -- the table's numbers
 abbrev pub refusal_number_of : Refusal → ℕ
@@ -34,6 +30,10 @@ stack_size = 128
 
 -- ---- rules
 
+-- what the rules say of an input: nothing, or the first that is broken
+abbrev pub Verdict : Type 0
+Verdict = Result ⊤ Refusal
+
 -- a rule of a call: its refusal, and whether the input breaks it
 pub record Rule : Type 0 where
   pub refusal : Refusal
@@ -45,8 +45,8 @@ abbrev pub ◌when◌ : Refusal → Bool → Rule
 infix 90 ◌when◌
 -- several apply: the first that is broken, and so the lowest number where the rules ascend
 abbrev pub verdict : List Rule → Verdict
-verdict [] = Fine
-verdict (r ∷ rs) = cond r.broken (Bad r.refusal) (verdict rs)
+verdict [] = Ok tt
+verdict (r ∷ rs) = cond r.broken (Err r.refusal) (verdict rs)
 
 -- the rules' numbers ascend, from n on
 abbrev pub ascending : ℕ → List Rule → Bool
@@ -86,7 +86,7 @@ block_rules b roomy = count_rules b.paired (length b.list) roomy ++ (BadBlock wh
 
 -- 5: a binary cell is above 2
 abbrev pub cell_rules : List ℕ → List Rule
-cell_rules cells = BadCell when any_of (λ c. ltb 2 c) cells ∷ []
+cell_rules cells = BadCell when list_any (λ c. ltb 2 c) cells ∷ []
 
 -- 10: the blocks need more than the length
 abbrev pub space_rules : ℕ → Lent → List Rule
@@ -96,13 +96,13 @@ space_rules n b = NoSpace when ltb n (minimal_space b.list) ∷ []
 
 -- the number, then the values that come with 0
 abbrev pub reply : Verdict → List ℕ → List ℕ
-reply Fine values = 0 ∷ values
-reply (Bad w) values = refusal_number_of w ∷ []
+reply (Ok _) values = 0 ∷ values
+reply (Err w) values = refusal_number_of w ∷ []
 
 -- the same of an answer that counts entries
-abbrev pub list_reply : ListAnswer → List ℕ
-list_reply (Done n) = 0 ∷ n ∷ []
-list_reply (Refused w) = refusal_number_of w ∷ []
+abbrev pub list_reply : Result ℕ Refusal → List ℕ
+list_reply (Ok n) = 0 ∷ n ∷ []
+list_reply (Err w) = refusal_number_of w ∷ []
 
 -- a list after the values vs were written to it: the entries after them stay
 abbrev pub written : List ℕ → List ℕ → List ℕ
@@ -110,18 +110,18 @@ written vs out = vs ++ drop (length vs) out
 
 -- a lent list after a call: a refusal leaves it as it stood
 abbrev pub left : Verdict → List ℕ → List ℕ → List ℕ
-left Fine vs out = written vs out
-left (Bad w) vs out = out
+left (Ok _) vs out = written vs out
+left (Err w) vs out = out
 
 -- ---- the statement of a call that writes lists: its answer, and each list after it
 
 -- one list, to which the values vs are written if no rule is broken
-pub record Writes (rules : List Rule) (vs out : List ℕ) (r : ListAnswer) (out' : List ℕ) : Type 0 where
+pub record Writes (rules : List Rule) (vs out : List ℕ) (r : Result ℕ Refusal) (out' : List ℕ) : Type 0 where
   pub answers : list_reply r ≡ reply (verdict rules) (length vs ∷ [])
   pub leaves : out' ≡ left (verdict rules) vs out
 
 -- two lists, for the sizes and the colours of blocks
-pub record WritesBlocks (rules : List Rule) (bs : List Block) (sizes colours : List ℕ) (r : ListAnswer) (sizes' colours' : List ℕ) : Type 0 where
+pub record WritesBlocks (rules : List Rule) (bs : List Block) (sizes colours : List ℕ) (r : Result ℕ Refusal) (sizes' colours' : List ℕ) : Type 0 where
   pub answers : list_reply r ≡ reply (verdict rules) (length bs ∷ [])
   pub size_list : sizes' ≡ left (verdict rules) (sizes_by bs) sizes
   pub colour_list : colours' ≡ left (verdict rules) (colours_by bs) colours

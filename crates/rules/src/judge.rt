@@ -1,28 +1,22 @@
 // The rules on lengths and blocks that several layers share. Each is found before anything is written.
 ghost use Rattle.std.specs.Prelude.{◌≡◌, ◌&&◌, map, ltb, leb, length};
 ghost use Rattle.rules.specs.Block.{black, blocks, coloured, binary, illegal_colour_of, illegal_block, illegal};
-ghost use Rattle.rules.specs.Ranges.{any_of};
+ghost use Rattle.std.specs.List.{list_any};
 ghost use Rattle.rules.specs.Refusal.{verdict, length_rules, side_rules, count_rules, block_rules};
 
-use crate::{Refusal, Verdict};
+use crate::Refusal;
 
 // A colour that is blank, or has not exactly one bit.
 pub fn illegal_colour(colour: u32) -> bool
     ensures { result ≡ illegal_colour_of colour }
 {
-    if colour == 1 {
-        return true;
-    }
-    u32::count_ones(colour) != 1
+    colour == 1 || colour.count_ones() != 1
 }
 
 fn illegal_block(size: u32, colour: u32) -> bool
     ensures { result ≡ illegal_block size colour }
 {
-    if size == 0 {
-        return true;
-    }
-    illegal_colour(colour)
+    size == 0 || illegal_colour(colour)
 }
 
 // Some block of a list is not legal.
@@ -30,122 +24,82 @@ pub fn any_illegal(sizes: &[u32], colours: &[u32]) -> bool
     requires { length sizes.now ≡ length colours.now }
     ensures { result ≡ illegal (blocks sizes.now colours.now) }
 {
-    let mut i = 0;
-    while i < sizes.len() {
-        if illegal_block(sizes[i], colours[i]) {
-            return true;
-        }
-        i += 1;
-    }
-    false
+    sizes
+        .iter()
+        .zip(colours)
+        .any(|(size, colour)| illegal_block(*size, *colour))
 }
 
 // Some number of a list is above `most`.
 pub fn any_above(list: &[u32], most: u32) -> bool
-    ensures { result ≡ any_of (λ n. ltb most n) list.now }
+    ensures { result ≡ list_any (λ n. ltb most n) list.now }
 {
-    let mut i = 0;
-    while i < list.len() {
-        if most < list[i] {
-            return true;
-        }
-        i += 1;
-    }
-    false
+    list.iter().any(|&n| most < n)
 }
 
 // Rule 1.
-pub fn judge_length(line_length: usize) -> Verdict
+pub fn judge_length(line_length: usize) -> Result<(), Refusal>
     ensures { result ≡ verdict (length_rules line_length) }
 {
-    if line_length == 0 {
-        return Verdict::Bad(Refusal::BadLength);
+    if line_length == 0 || 64 < line_length {
+        return Err(Refusal::BadLength);
     }
-    if 64 < line_length {
-        return Verdict::Bad(Refusal::BadLength);
-    }
-    Verdict::Fine
+    Ok(())
 }
 
 // Rule 1 for both sides.
-pub fn judge_sides(width: usize, height: usize) -> Verdict
+pub fn judge_sides(width: usize, height: usize) -> Result<(), Refusal>
     ensures { result ≡ verdict (side_rules width height) }
 {
-    let v = judge_length(width);
-    match v {
-        Verdict::Bad(w) => Verdict::Bad(w),
-        Verdict::Fine => judge_length(height),
-    }
+    judge_length(width)?;
+    judge_length(height)
 }
 
-// Rules 2 and 3. `paired`: the lists that hold the blocks have one length. `roomy`: the lists to write have room.
-pub fn judge_count(paired: bool, count: usize, roomy: bool) -> Verdict
+// Rules 2 and 3, by what was found of the lists: `paired`, that those of the blocks have one length; `roomy`, that those to write have room.
+pub fn judge_count(paired: bool, count: usize, roomy: bool) -> Result<(), Refusal>
     ensures { result ≡ verdict (count_rules paired count roomy) }
 {
-    if !paired {
-        return Verdict::Bad(Refusal::BadRoom);
-    }
-    if !roomy {
-        return Verdict::Bad(Refusal::BadRoom);
+    if !paired || !roomy {
+        return Err(Refusal::BadRoom);
     }
     if 64 < count {
-        return Verdict::Bad(Refusal::TooManyBlocks);
+        return Err(Refusal::TooManyBlocks);
     }
-    Verdict::Fine
+    Ok(())
 }
 
 // Rules 2, 3 and 4.
-pub fn judge_blocks(sizes: &[u32], colours: &[u32], roomy: bool) -> Verdict
+pub fn judge_blocks(sizes: &[u32], colours: &[u32], roomy: bool) -> Result<(), Refusal>
     ensures { result ≡ verdict (block_rules (coloured sizes.now colours.now) roomy) }
 {
-    let v = judge_count(sizes.len() == colours.len(), sizes.len(), roomy);
-    match v {
-        Verdict::Bad(w) => Verdict::Bad(w),
-        Verdict::Fine => {
-            if any_illegal(sizes, colours) {
-                return Verdict::Bad(Refusal::BadBlock);
-            }
-            Verdict::Fine
-        }
+    judge_count(sizes.len() == colours.len(), sizes.len(), roomy)?;
+    if any_illegal(sizes, colours) {
+        return Err(Refusal::BadBlock);
     }
+    Ok(())
 }
 
-// The same of black blocks: some size is 0.
+// Some black block of a list is not legal: a size is 0. It is not `any_illegal`, since no colours are lent.
 pub fn any_empty(sizes: &[u32]) -> bool
     ensures { result ≡ illegal (map black sizes.now) }
 {
-    let mut i = 0;
-    while i < sizes.len() {
-        if sizes[i] == 0 {
-            return true;
-        }
-        i += 1;
-    }
-    false
+    sizes.contains(&0)
 }
 
-// The same of black blocks.
-pub fn judge_black(sizes: &[u32], roomy: bool) -> Verdict
+// Rules 2, 3 and 4 of black blocks, of which no colours are lent.
+pub fn judge_black(sizes: &[u32], roomy: bool) -> Result<(), Refusal>
     ensures { result ≡ verdict (block_rules (binary sizes.now) roomy) }
 {
-    let v = judge_count(true, sizes.len(), roomy);
-    match v {
-        Verdict::Bad(w) => Verdict::Bad(w),
-        Verdict::Fine => {
-            if any_empty(sizes) {
-                return Verdict::Bad(Refusal::BadBlock);
-            }
-            Verdict::Fine
-        }
+    judge_count(true, sizes.len(), roomy)?;
+    if any_empty(sizes) {
+        return Err(Refusal::BadBlock);
     }
+    Ok(())
 }
 
 // Whether two lists have room for `count` entries.
 pub fn both_room(count: usize, a: usize, b: usize) -> bool
     ensures { result ≡ (leb count a && leb count b) }
 {
-    if a < count {
-        return false;
-    }
-    count <= b
+    count <= a && count <= b
 }

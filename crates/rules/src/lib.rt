@@ -1,4 +1,4 @@
-// What every layer shares: positions of lines, refusals, and the answer of a call that writes lists.
+// What every layer shares: positions of lines, and refusals with their numbers.
 #![tactic(auto)]
 
 ghost use Rattle.std.specs.Prelude.{◌≡◌};
@@ -36,34 +36,22 @@ pub enum Refusal {
     BadText,
 }
 
-// What the rules say of an input: nothing, or the first that is broken.
-#[derive(Clone, Copy)]
-pub enum Verdict {
-    Fine,
-    Bad(Refusal),
-}
-
-// The answer of a call that writes one list, or lists of one length: how many entries of each are written.
-#[derive(Clone, Copy)]
-pub enum ListAnswer {
-    Done { entries: usize },
-    Refused(Refusal),
-}
-
 // The documents' number of a refusal.
-pub fn refusal_number(refusal: Refusal) -> u32
-    ensures { result ≡ refusal_number_of refusal }
-{
-    match refusal {
-        Refusal::BadLength => 1,
-        Refusal::BadRoom => 2,
-        Refusal::TooManyBlocks => 3,
-        Refusal::BadBlock => 4,
-        Refusal::BadCell => 5,
-        Refusal::OutsideGrid => 6,
-        Refusal::ShortReport => 7,
-        Refusal::BadCode => 9,
-        Refusal::NoSpace => 10,
-        Refusal::BadText => 11,
+impl From<Refusal> for u32 {
+    ghost from_gives = { λ refusal number. number ≡ refusal_number_of refusal };
+
+    fn from(refusal: Refusal) -> u32 {
+        match refusal {
+            Refusal::BadLength => 1,
+            Refusal::BadRoom => 2,
+            Refusal::TooManyBlocks => 3,
+            Refusal::BadBlock => 4,
+            Refusal::BadCell => 5,
+            Refusal::OutsideGrid => 6,
+            Refusal::ShortReport => 7,
+            Refusal::BadCode => 9,
+            Refusal::NoSpace => 10,
+            Refusal::BadText => 11,
+        }
     }
 }

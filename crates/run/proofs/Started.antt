@@ -1,4 +1,5 @@
 -- How a judged run begins, and that its end is the one that the order rules give; every entry of its report costs a colour.
+use Rattle.std.specs.Prelude.{Result}
 use mathlib.Core.Path.{◌≡◌, refl, ap₂, ◌∙◌, subst}
 use mathlib.Core.List.{List, []}
 use Prim.Native.Nat.{ℕ, ◌+◌, ◌≤◌}
@@ -12,12 +13,15 @@ use Rattle.rules.specs.declared.LinePosition.{LinePosition}
 use Rattle.rules.proofs.Cards.{straight_proper, straight_right}
 use Rattle.rules.proofs.Leavings.{runs_within, runs_filled, runs_halt}
 use Rattle.rules.proofs.Runs.{full_runs, point_runs, full_spent, point_spent}
-use Rattle.stack.specs.Stack.{stack_of, Lines}
+use Rattle.grid.specs.declared.report.Report.{Report}
+use Rattle.stack.specs.declared.Stack.{Stack}
+use Rattle.stack.specs.Stack.{lines_on, Lines, Starts}
 use Rattle.stack.proofs.Onces.{lines_point, lines_full}
 use Rattle.card.proofs.Clued.{clue_legal}
 use Rattle.run.specs.declared.Start.{Start}
 use Rattle.run.specs.declared.Start.TheVariants.{Full, Point}
-use Rattle.run.specs.declared.RunAnswer.{RunAnswer}
+use Rattle.run.specs.declared.Progress.{Progress}
+use Rattle.run.specs.declared.RunError.{RunError}
 use Rattle.run.specs.Ends.{end_of, start_stack, start_count}
 use Rattle.run.specs.Steps.{InGrid, Begins, Ended, Judged}
 use Rattle.grid.proofs.Rows.{sized}
@@ -27,18 +31,19 @@ start_lines w h Full i = lines_full w h
 start_lines w h (Point x y) i = lines_point x.0 y.0 i.0 i.1
 
 module _ {w h : ℕ} {s : Start} {c : Card} {b report memo stack : List ℕ} (j : Judged w h s c b report memo stack) where
-  pub begins : (column answer stack' : List ℕ) (n : ℕ) → 64 ≤ length column → 64 ≤ length answer → length stack' ≡ length stack
-      → stack_of stack' n ≡ start_stack w h s → Begins w h c b report memo column answer stack' n
-  begins column answer stack' n p q l e =
+  pub begins : (r : Report) (column answer : List ℕ) (t : Stack) → r.count ≡ 0 → r.cells.now ≡ report → 64 ≤ length column → 64 ≤ length answer
+      → Starts (start_stack w h s) stack t → Begins w h c b r memo column answer t
+  begins r column answer t f u p q e =
       record {
         grid = j.grid;
         right = j.right;
-        lines = rw e (start_lines w h s j.inside);
+        lines = rw e.lines (start_lines w h s j.inside);
         works = q;
         copy = omega (arith, j.grid.high_most);
         memos = j.memos;
-        stacked = omega (arith, j.stacked);
-        reports = j.reports;
+        stacked = omega (arith, j.stacked, e.long);
+        fresh = f;
+        reports = rw u j.reports;
       }
 
   pub proper : (l : LinePosition) (p : List ℕ) → Straight w h (clue_of c) l p → Proper p
@@ -94,9 +99,11 @@ unfolding full_run point_run
 end_is w h Full c b = refl
 end_is w h (Point x y) c b = refl
 
-pub ended : (w h : ℕ) (s : Start) (c : Card) (b : List ℕ) {report b' report' : List ℕ} {r : RunAnswer} (stack : List ℕ) (n : ℕ) → n ≡ start_count w h s
-    → stack_of stack n ≡ start_stack w h s → Ended (run w h (solve_straight w h (clue_of c)) (room b + n) (stack_of stack n) b [] 0) r b' report report'
-    → Ended (end_of w h s c b) r b' report report'
-ended w h s c b {report} {b'} {report'} {r} stack n e f v =
-    subst (λ (o : Outcome). Ended o r b' report report')
-    (ap₂ (λ (k : ℕ) (st : List LinePosition). run w h (solve_straight w h (clue_of c)) (room b + k) st b [] 0) e f ∙ end_is w h s c b) v
+pub ended : (w h : ℕ) (s : Start) (c : Card) (b : List ℕ) {report b' report' left : List ℕ} {r : Result Progress RunError} (t : Stack)
+    → t.count ≡ start_count w h s → lines_on t ≡ start_stack w h s
+    → Ended (run w h (solve_straight w h (clue_of c)) (room b + t.count) (lines_on t) b [] 0) r b' report report' → left ≡ report'
+    → Ended (end_of w h s c b) r b' report left
+ended w h s c b {report} {b'} {report'} {left} {r} t e f v u =
+    rw u
+    (subst (λ (o : Outcome). Ended o r b' report report')
+    (ap₂ (λ (k : ℕ) (st : List LinePosition). run w h (solve_straight w h (clue_of c)) (room b + k) st b [] 0) e f ∙ end_is w h s c b) v)

@@ -1,5 +1,5 @@
 -- Where a run begins, what its answer tells, and what the end of a run asks to be told.
-use Rattle.std.specs.Prelude.{List, ℕ, ◌+◌, length}
+use Rattle.std.specs.Prelude.{List, ℕ, ◌+◌, length, Result, Ok, Err}
 use Rattle.std.proofs.Math.Option.{Option, none, some}
 use Rattle.rules.specs.Card.{Card, clue_of, solve_straight}
 use Rattle.rules.specs.Refusal.{refusal_number_of}
@@ -8,14 +8,15 @@ use Rattle.rules.specs.declared.LinePosition.{LinePosition}
 use Rattle.rules.specs.declared.Refusal.{Refusal}
 use Rattle.run.specs.declared.Start.{Start}
 use Rattle.run.specs.declared.Start.TheVariants.{Full, Point}
-use Rattle.run.specs.declared.RunAnswer.{RunAnswer}
-use Rattle.run.specs.declared.RunAnswer.TheVariants.{Done, Unsolvable, Refused}
+use Rattle.run.specs.declared.Progress.{Progress}
+use Rattle.run.specs.declared.RunError.{RunError}
+use Rattle.run.specs.declared.RunError.TheVariants.{Unsolvable, Refused}
 
 -- document 01's number of each answer
-abbrev pub run_answer_number : RunAnswer → ℕ
-run_answer_number (Done entries lines) = 0
-run_answer_number (Unsolvable line entries lines) = 8
-run_answer_number (Refused w) = refusal_number_of w
+abbrev pub run_answer_number : Result Progress RunError → ℕ
+run_answer_number (Ok p) = 0
+run_answer_number (Err (Unsolvable line p)) = 8
+run_answer_number (Err (Refused w)) = refusal_number_of w
 
 -- what an answer tells: its number, the line that refused, the entries written to the report and the lines solved
 pub record Reply : Type 0 where
@@ -28,10 +29,10 @@ pub record Reply : Type 0 where
 abbrev pub refusal : Refusal → Reply
 refusal w = record { number = refusal_number_of w; line = none; entries = 0; lines = 0 }
 
-abbrev pub reply_by : RunAnswer → Reply
-reply_by (Done entries lines) = record { number = 0; line = none; entries = entries; lines = lines }
-reply_by (Unsolvable line entries lines) = record { number = 8; line = some line; entries = entries; lines = lines }
-reply_by (Refused w) = refusal w
+abbrev pub reply_by : Result Progress RunError → Reply
+reply_by (Ok p) = record { number = 0; line = none; entries = p.entries; lines = p.lines }
+reply_by (Err (Unsolvable line p)) = record { number = 8; line = some line; entries = p.entries; lines = p.lines }
+reply_by (Err (Refused w)) = refusal w
 
 -- what the end of a run asks to be told
 abbrev pub reply_to : Outcome → Reply

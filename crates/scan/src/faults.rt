@@ -1,41 +1,62 @@
-// Tells why a text is no picture. In brackets stands the documents' number, where there is one.
-use crate::writing::{write_number, write_text};
-use rules::{Refusal, refusal_number};
-use std::io;
+// Tells why a file is no picture. In brackets stands the documents' number, where there is one.
+use files::Unopened;
+use rules::Refusal;
+use std::{fmt, io};
 
-pub(crate) fn write_fault(rt: &impl Print, name: &[u8], what: &[u8]) -> io::Result<()> {
-    write_text(rt, b"no picture, ")?;
-    write_text(rt, name)?;
-    write_text(rt, b": ")?;
-    write_text(rt, what)
+// Why a file is no picture.
+#[derive(Clone, Copy)]
+pub(crate) enum NoPicture {
+    Unopened(Unopened),
+    Unreadable,
+    // The text is longer than what was read of it.
+    Long,
+    // The text is raw PBM, the other form of such pictures, which a tool makes plain.
+    Raw,
+    Refused(Refusal),
 }
 
-// What 11 means. Raw PBM is the other form of such pictures, and a tool makes it plain.
-fn write_break(rt: &impl Print, name: &[u8], raw: bool) -> io::Result<()> {
-    if raw {
-        write_fault(
-            rt,
-            name,
-            b"this is raw PBM, which pnmtoplainpnm makes plain",
-        )
-    } else {
-        write_fault(rt, name, b"the text is not plain PBM as it is read here")
+impl NoPicture {
+    // What is wrong with a text that is refused.
+    pub(crate) fn of(refusal: Refusal, text: &[u8]) -> NoPicture {
+        match refusal {
+            Refusal::BadText if text.starts_with(b"P4") => NoPicture::Raw,
+            _ => NoPicture::Refused(refusal),
+        }
+    }
+
+    // The refusal, where it has a number.
+    fn refusal(self) -> Option<Refusal> {
+        match self {
+            NoPicture::Raw => Some(Refusal::BadText),
+            NoPicture::Refused(refusal) => Some(refusal),
+            _ => None,
+        }
     }
 }
 
-// What a refusal means, and its number. `raw` tells that the text begins as raw PBM does.
-pub(crate) fn write_refusal(
-    rt: &impl Print,
-    name: &[u8],
-    refusal: Refusal,
-    raw: bool,
-) -> io::Result<()> {
-    match refusal {
-        Refusal::BadLength => write_fault(rt, name, b"a side is 0 or above 64")?,
-        Refusal::BadText => write_break(rt, name, raw)?,
-        _ => write_fault(rt, name, b"it is refused")?,
+impl fmt::Display for NoPicture {
+    fn fmt<W: fmt::Write>(&self, f: &mut fmt::Formatter<W>) -> fmt::Result {
+        match self {
+            NoPicture::Unopened(unopened) => write!(f, "{unopened}")?,
+            NoPicture::Unreadable => write!(f, "the file cannot be read")?,
+            NoPicture::Long => write!(f, "the text is longer than 65,535 bytes")?,
+            NoPicture::Raw => write!(f, "this is raw PBM, which pnmtoplainpnm makes plain")?,
+            NoPicture::Refused(Refusal::BadLength) => write!(f, "a side is 0 or above 64")?,
+            NoPicture::Refused(Refusal::BadText) => {
+                write!(f, "the text is not plain PBM as it is read here")?
+            }
+            NoPicture::Refused(_) => write!(f, "it is refused")?,
+        }
+        match self.refusal() {
+            Some(refusal) => write!(f, " ({})", u32::from(refusal)),
+            None => Ok(()),
+        }
     }
-    write_text(rt, b" (")?;
-    write_number(rt, refusal_number(refusal) as u64)?;
-    write_text(rt, b")\n")
+}
+
+// Tells that a file is no picture. Its name need not be text.
+pub(crate) fn write_fault(rt: &impl Print, name: &[u8], fault: NoPicture) -> io::Result<()> {
+    print!(rt; "no picture, ")?;
+    rt.write_all(name)?;
+    println!(rt; ": {fault}")
 }

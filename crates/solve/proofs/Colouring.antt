@@ -21,5 +21,5 @@ its_bit zero b h = absurd (omega arith)
 its_bit (suc d) zero h = refl
 its_bit (suc d) (suc b) h = rw (even b, half b) (ap suc (its_bit d b (omega arith)))
 
-pub colour_shown : (card : List ℕ) (b : ℕ) → b < 32 → shown card (colour_at b) ≡ word_at card b
-colour_shown card b h = rw (one-mul (2 ^ b), one_bit b, its_bit 32 b h)
+pub colour_shown : (words : List ℕ) (b : ℕ) → b < 32 → shown words (colour_at b) ≡ word_at words b
+colour_shown words b h = rw (one-mul (2 ^ b), one_bit b, its_bit 32 b h)

@@ -1,2 +1,1 @@
 pub mod Colouring
-pub mod Opened

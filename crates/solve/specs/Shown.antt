@@ -1,5 +1,5 @@
 -- What a person is shown of a cell: a word, as the number that its letters are in base 256.
-use Rattle.std.specs.Prelude.{ℕ, ◌+◌, Bool, true, false, cond, not, List, [], ◌∷◌, ◌==◌, count_ones}
+use Rattle.std.specs.Prelude.{ℕ, Bool, true, false, cond, not, List, ◌==◌, count_ones, count_by}
 use Rattle.std.specs.Int.Count.{count_trailing_zeros}
 use Rattle.rules.specs.Binary.{set_by}
 use Rattle.non.specs.Colours.{word_at}
@@ -14,10 +14,9 @@ abbrev pub is_open : ℕ → Bool
 is_open s = not (count_ones s == 1)
 
 -- how many cells are open
-unfoldable pub open_in : Bool → List ℕ → ℕ
-open_in k [] = 0
-open_in k (c ∷ l) = cond (is_open (set_shown k c)) 1 0 + open_in k l
+abbrev pub open_in : Bool → List ℕ → ℕ
+open_in k l = count_by (λ c. is_open (set_shown k c)) l
 
 -- an open cell is `?`, and any other the word of its colour: `.` for blank, and `#` for black
 abbrev pub shown : List ℕ → ℕ → ℕ
-shown card s = cond (is_open s) 63 (word_at card (count_trailing_zeros 32 s))
+shown words s = cond (is_open s) 63 (word_at words (count_trailing_zeros 32 s))

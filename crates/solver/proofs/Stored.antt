@@ -1,80 +1,58 @@
--- The array that holds a line: what stands where once its blocks and their sums are written.
+-- The struct that holds a line: what stands where once its blocks and their sums are written.
 use mathlib.Core.Path.{◌≡◌, refl, sym, ap, ap₂, ◌∙◌}
-use mathlib.Core.Logic.{◌≢◌}
 use mathlib.Core.Bool.{Bool, true, false, cond}
 use mathlib.Core.List.{List}
 use Prim.Native.Nat.{ℕ, zero, suc, ◌+◌, ◌-◌, ◌≤◌, ◌<◌}
 use native.Mathlib.Numerals.{add-one}
 use native.Mathlib.Omega.{arith}
 use lib.Dec.{eqb}
-use lib.ListN.{length, get_or, set, length-set, get_or-eq_default}
-use lib.Seq.{sets, length-sets, get_or-set_same, get_or-set_other}
+use lib.ListN.{length, get_or, set, get_or-eq_default}
+use lib.Seq.{get_or-set_same, get_or-set_other}
+use Rattle.rules.specs.Block.{Block, ◌of◌}
 use Rattle.rules.proofs.Tests.{below?}
-use Rattle.loops.proofs.Stores.{sets_before, sets_at}
+use Rattle.filling.specs.declared.HeldLine.{HeldLine}
 use Rattle.filling.specs.Filling.{Line, held, trails, gap_after, taken, space}
-use Rattle.solver.specs.Steps.{Holdable, Holds, KeptBut}
+use Rattle.solver.specs.Steps.{Holds, KeptBut}
 
 -- ---- the blocks
 
-module _ {n : ℕ} {sizes colours xs : List ℕ} (H : Holdable n sizes colours xs) where
-  abbrev copied : List ℕ
-  copied = sets (sets xs 64 sizes) 128 colours
+-- the first b blocks are written
+pub record Holding (h : HeldLine) (bs : List Block) (h' : HeldLine) (b : ℕ) : Type 0 where
+  pub cells_same : h'.cells ≡ h.cells
+  pub size_is : (k : ℕ) → k < b → (held h').size k ≡ (get_or bs k (0 of 0)).size
+  pub colour_is : (k : ℕ) → k < b → (held h').colour k ≡ (get_or bs k (0 of 0)).colour
 
-  abbrev closed : List ℕ
-  closed = set copied (128 + length colours) 0
+-- what stands in the first b entries of a list and at the next, stands in one more
+one_more : (f : ℕ → ℕ) (l : List ℕ) (b x : ℕ) → b < length l → ((k : ℕ) → k < b → get_or l k 0 ≡ f k) → x ≡ f b
+    → (k : ℕ) → k < b + 1 → get_or (set l b x) k 0 ≡ f k
+one_more f l b x r s e k u = below? k b
+    (λ v. get_or-set_other l b k x 0 (λ q. omega arith) ∙ s k v)
+    (λ v. let q : k ≡ b = omega arith in rw q (get_or-set_same l b x 0 r ∙ e))
 
-  abbrev begun : List ℕ
-  begun = set closed 193 0
-
-  abbrev measured : List ℕ
-  measured = set begun 258 n
-
-  abbrev pub completed : List ℕ
-  completed = set measured 259 (length sizes)
-
-  copied_long : length copied ≡ length xs
-  copied_long = length-sets (sets xs 64 sizes) 128 colours ∙ length-sets xs 64 sizes
-
-  begun_long : length begun ≡ length xs
-  begun_long = length-set closed 193 0 ∙ length-set copied (128 + length colours) 0 ∙ copied_long
-
-  measured_long : length measured ≡ length xs
-  measured_long = length-set begun 258 n ∙ begun_long
-
-  -- the places that the last stores do not touch
-  front : (j : ℕ) → j < 193 → get_or completed j 0 ≡ get_or closed j 0
-  front j h =
-      get_or-set_other measured 259 j (length sizes) 0 (λ e. omega arith) ∙ get_or-set_other begun 258 j n 0 (λ e. omega arith)
-      ∙ get_or-set_other closed 193 j 0 0 (λ e. omega arith)
-
-  peel : (j : ℕ) → j ≢ 128 + length colours → j < 193 → get_or completed j 0 ≡ get_or copied j 0
-  peel j u v = front j v ∙ get_or-set_other copied (128 + length colours) j 0 0 u
-
-  ended : get_or completed (128 + length colours) 0 ≡ 0
-  ended =
-      front (128 + length colours) (omega (arith, H.few, H.paired))
-      ∙ get_or-set_same copied (128 + length colours) 0 0 (omega (arith, copied_long, H.few, H.paired, H.long))
-
-  pub holds : Holds xs n sizes colours completed
-  holds = record {
-    long = length-set measured 259 (length sizes) ∙ measured_long;
-    cells = get_or-set_other measured 259 258 (length sizes) 0 (λ e. omega arith) ∙ get_or-set_same begun 258 n 0 (omega (arith, begun_long, H.long));
-    count = get_or-set_same measured 259 (length sizes) 0 (omega (arith, measured_long, H.long));
-    cell_is = λ i h.
-        peel i (λ e. omega arith) (omega arith) ∙ sets_before colours (sets xs 64 sizes) 128 i 0 (omega arith) ∙ sets_before sizes xs 64 i 0 h;
-    size_is = λ b h.
-        peel (64 + b) (λ e. omega (arith, H.few)) (omega (arith, H.few))
-        ∙ sets_before colours (sets xs 64 sizes) 128 (64 + b) 0 (omega (arith, H.few))
-        ∙ sets_at sizes xs 64 b 0 h (omega (arith, H.few, H.long));
-    colour_is = λ b h. below? b (length colours)
-        (λ l. peel (128 + b) (λ e. omega arith) (omega (arith, H.few))
-        ∙ sets_at colours (sets xs 64 sizes) 128 b 0 l (omega (arith, H.few, H.paired, H.long, length-sets xs 64 sizes)))
-        (λ l. let e : b ≡ length colours = omega (arith, H.paired) in
-        ap (λ k. get_or completed (128 + k) 0) e ∙ ended ∙ sym (get_or-eq_default colours 0 {n = b} l));
-    no_sum =
-        get_or-set_other measured 259 193 (length sizes) 0 (λ e. omega arith) ∙ get_or-set_other begun 258 193 n 0 (λ e. omega arith)
-        ∙ get_or-set_same closed 193 0 0 (omega (arith, length-set closed 193 0, begun_long, H.long));
+module _ {h h' : HeldLine} {bs : List Block} where
+  pub holding_more : {b x y : ℕ} → Holding h bs h' b → b < length h'.sizes → b < length h'.colours → x ≡ (get_or bs b (0 of 0)).size → y ≡ (get_or bs b (0 of 0)).colour
+      → Holding h bs (record h' { sizes = set h'.sizes b x; colours = set h'.colours b y }) (b + 1)
+  holding_more {b} {x} {y} H r s e f = record {
+    cells_same = H.cells_same;
+    size_is = one_more (λ k. (get_or bs k (0 of 0)).size) h'.sizes b x r H.size_is e;
+    colour_is = one_more (λ k. (get_or bs k (0 of 0)).colour) h'.colours b y s H.colour_is f;
   }
+
+  -- all are: the 0 that is written after them is the colour of no block
+  pub holds : (n : ℕ) {b : ℕ} → b ≡ length bs → Holding h bs h' b → length h'.cells ≡ 64 → b < length h'.colours → 0 < length h'.sums
+      → Holds h n bs (record h' { colours = set h'.colours b 0; sums = set h'.sums 0 0; length = n; count = b })
+  holds n {b} e H l s t = record {
+    length_is = refl;
+    count_is = e;
+    cells_same = H.cells_same;
+    long = l;
+    size_is = λ k u. H.size_is k (omega arith);
+    colour_is = λ k u. one_more (λ i. (get_or bs i (0 of 0)).colour) h'.colours b 0 s H.colour_is no_block k (omega arith);
+    no_sum = get_or-set_same h'.sums 0 0 0 t;
+  }
+    where
+      no_block : 0 ≡ (get_or bs b (0 of 0)).colour
+      no_block = ap (λ (x : Block). x.colour) (sym (get_or-eq_default bs (0 of 0) {n = b} (omega arith)))
 
 -- ---- the least space of the first blocks, one block more at a time
 
@@ -115,57 +93,59 @@ module _ (L M : Line) (k : ℕ) (sizes : (b : ℕ) → b < k → M.size b ≡ L.
 -- ---- the sums
 
 -- what stays beside them
-module _ {xs ys : List ℕ} (K : KeptBut xs ys) where
-  pub kept_size : (b : ℕ) → b < 64 → (held ys).size b ≡ (held xs).size b
-  kept_size b h = K.same (64 + b) (λ u v. omega arith)
+module _ {h h' : HeldLine} (K : KeptBut h h') where
+  pub kept_cell : (i : ℕ) → (held h').cell i ≡ (held h).cell i
+  kept_cell i = ap (λ (x : HeldLine). (held x).cell i) K.same
 
-  pub kept_colour : (b : ℕ) → b ≤ 64 → (held ys).colour b ≡ (held xs).colour b
-  kept_colour b h = K.same (128 + b) (λ u v. omega arith)
+  pub kept_size : (b : ℕ) → (held h').size b ≡ (held h).size b
+  kept_size b = ap (λ (x : HeldLine). (held x).size b) K.same
+
+  pub kept_colour : (b : ℕ) → (held h').colour b ≡ (held h).colour b
+  kept_colour b = ap (λ (x : HeldLine). (held x).colour b) K.same
+
+  pub kept_length : h'.length ≡ h.length
+  kept_length = ap (λ (x : HeldLine). x.length) K.same
+
+  pub kept_count : h'.count ≡ h.count
+  kept_count = ap (λ (x : HeldLine). x.count) K.same
 
 -- after b blocks: the packing has come to `start`, and the sums up to there are written
-pub record Summing (xs ys : List ℕ) (start b : ℕ) : Type 0 where
-  pub kept : KeptBut xs ys
-  pub at : start ≡ taken (held xs) b
+pub record Summing (h h' : HeldLine) (start b : ℕ) : Type 0 where
+  pub kept : KeptBut h h'
+  pub at : start ≡ taken (held h) b
   pub low : start ≤ 65
-  pub sums : (c : ℕ) → c ≤ b → (held ys).sum c ≡ space (held xs) c - 1
+  pub sums : (c : ℕ) → c ≤ b → (held h').sum c ≡ space (held h) c - 1
 
-pub summing_start : (xs : List ℕ) → (held xs).sum 0 ≡ 0 → Summing xs xs 0 0
-summing_start xs z = record {
-  kept = record { long = refl; same = λ i n. refl };
+pub summing_start : (h : HeldLine) → (held h).sum 0 ≡ 0 → Summing h h 0 0
+summing_start h z = record {
+  kept = record { same = refl };
   at = refl;
   low = omega arith;
-  sums = λ c h. let e : c ≡ 0 = omega arith in rw e z;
+  sums = λ c l. let e : c ≡ 0 = omega arith in rw e z;
 }
 
-module _ {xs ys : List ℕ} {start b : ℕ} (S : Summing xs ys start b) (few : b < 64) where
-  -- block b is as it was
-  pub size_same : (held ys).size b ≡ (held xs).size b
-  size_same = kept_size S.kept b few
-
-  trails_same : trails (held ys) b ≡ trails (held xs) b
-  trails_same = trails_as (held xs) (held ys) 64 (kept_size S.kept) (kept_colour S.kept) b few
+module _ {h h' : HeldLine} {start b : ℕ} (S : Summing h h' start b) (few : b < 64) where
+  trails_same : trails (held h') b ≡ trails (held h) b
+  trails_same = trails_as (held h) (held h') 64 (λ c l. kept_size S.kept c) (λ c l. kept_colour S.kept c) b few
 
   -- its packing ends at the least space of the blocks up to it
-  pub end_space : start + (held ys).size b ≡ space (held xs) (b + 1)
-  end_space = omega (arith, S.at, size_same, space_more (held xs) b)
+  pub end_space : start + (held h').size b ≡ space (held h) (b + 1)
+  end_space = omega (arith, S.at, kept_size S.kept b, space_more (held h) b)
 
-  module _ (room : ℕ) (is : room ≡ (held ys).size b + cond (trails (held ys) b) 1 0) (end : ℕ) (ends : end ≡ start + (held ys).size b) (low : end ≤ 64)
-      (long : 260 ≤ length ys) where
-    pub summing_more : Summing xs (set ys (193 + (b + 1)) (end - 1)) (start + room) (b + 1)
+  module _ (room : ℕ) (is : room ≡ (held h').size b + cond (trails (held h') b) 1 0) (end : ℕ) (ends : end ≡ start + (held h').size b) (low : end ≤ 64)
+      (long : length h'.sums ≡ 65) where
+    pub summing_more : Summing h (record h' { sums = set h'.sums (b + 1) (end - 1) }) (start + room) (b + 1)
     summing_more = record {
-      kept = record {
-        long = length-set ys (193 + (b + 1)) (end - 1) ∙ S.kept.long;
-        same = λ i n. get_or-set_other ys (193 + (b + 1)) i (end - 1) 0 (λ e. n (omega arith) (omega arith)) ∙ S.kept.same i n;
-      };
-      at = (let e : start + room ≡ start + (held ys).size b + cond (trails (held ys) b) 1 0 = omega arith in e)
+      kept = record { same = ap (λ (x : HeldLine). record x { sums = set h'.sums (b + 1) (end - 1) }) S.kept.same };
+      at = (let e : start + room ≡ start + (held h').size b + cond (trails (held h') b) 1 0 = omega arith in e)
           ∙ ap₂ (λ x t. x + cond t 1 0) (ends_at) trails_same
-          ∙ sym (taken_more (held xs) b);
-      low = omega (arith, cond_le (trails (held ys) b));
-      sums = λ c h. below? b c
-          (λ l. let e : c ≡ b + 1 = omega arith in rw e
-          (get_or-set_same ys (193 + (b + 1)) (end - 1) 0 (omega arith) ∙ ap (λ x. x - 1) (ends ∙ end_space)))
-          (λ l. get_or-set_other ys (193 + (b + 1)) (193 + c) (end - 1) 0 (λ e. omega arith) ∙ S.sums c l);
+          ∙ sym (taken_more (held h) b);
+      low = omega (arith, cond_le (trails (held h') b));
+      sums = λ c l. below? b c
+          (λ u. let e : c ≡ b + 1 = omega arith in rw e
+          (get_or-set_same h'.sums (b + 1) (end - 1) 0 (omega arith) ∙ ap (λ x. x - 1) (ends ∙ end_space)))
+          (λ u. get_or-set_other h'.sums (b + 1) c (end - 1) 0 (λ e. omega arith) ∙ S.sums c u);
     }
       where
-        ends_at : start + (held ys).size b ≡ taken (held xs) b + (held xs).size b
-        ends_at = ap₂ (λ x y. x + y) S.at size_same
+        ends_at : start + (held h').size b ≡ taken (held h) b + (held h).size b
+        ends_at = ap₂ (λ x y. x + y) S.at (kept_size S.kept b)

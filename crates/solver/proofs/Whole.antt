@@ -1,4 +1,4 @@
--- The whole line: what the array holds once blocks and sums are written, what the solver is asked there, and that its answer is the paper's.
+-- The whole line: what the struct holds once blocks and sums are written, what the solver is asked there, and that its answer is the paper's.
 use mathlib.Core.Path.{◌≡◌, refl, sym, ap, ◌∙◌, subst}
 use mathlib.Core.Bool.{Bool, true, false, cond}
 use mathlib.Core.Logic.{⊎_elim, ◌≢◌}
@@ -12,7 +12,7 @@ use lib.Dec.{eqb}
 use lib.ListN.{length, get_or, take, replicate, get_or-replicate, length-replicate}
 use lib.Seq.{get_or-take, length-take-le}
 use Rattle.rules.specs.Colour.{Has, Colour}
-use Rattle.rules.specs.Block.{Block, blocks, Legal, legal_block}
+use Rattle.rules.specs.Block.{Block, ◌of◌, Legal, legal_block}
 use Rattle.rules.specs.Placement.{pieces, Lay}
 use Rattle.rules.specs.Placement.{gap as gap_of}
 use Rattle.rules.specs.Answer.{Fitting, Answers, Exact}
@@ -22,103 +22,92 @@ use Rattle.rules.proofs.Colours.{not_has_zero, has_pow, has_inside}
 use Rattle.rules.proofs.Blocks.{test_legal}
 use Rattle.rules.proofs.Binaries.{line_only}
 use Rattle.rules.proofs.Boards.{get_d_tabulate}
+use Rattle.filling.specs.declared.HeldLine.{HeldLine}
 use Rattle.filling.specs.Filling.{Line, held, space, Fits, Solution}
 use Rattle.filling.specs.Steps.{LegalLine, Covered, Rest, Ask, Tell, entry_of}
 use Rattle.solver.specs.Steps.{Cleared, Holds, Summable, KeptBut, Solvable, Tried, outcome}
 use Rattle.filling.proofs.Fillings.{space_le}
-use Rattle.solver.proofs.Stored.{space_as, kept_size, kept_colour}
+use Rattle.solver.proofs.Stored.{space_as, kept_cell, kept_size, kept_colour, kept_length, kept_count}
 use Rattle.solver.proofs.Bridge.{PiecesOf, fit_solution, solution_fit}
 
--- ---- the pieces of blocks in two lists, by their numbers
+-- ---- the pieces of blocks, by their numbers
 
 colour_some : {c : ℕ} → Colour c → c ≢ 0
 colour_some {c} k z = not_has_zero (subst (λ (x : ℕ). Has x k.0) (sym k.1 ∙ z) (has_pow k.0))
 
-length_pieces : (ns cs : List ℕ) → length ns ≡ length cs → length (pieces (blocks ns cs)) ≡ length ns
-length_pieces [] cs e = refl
-length_pieces (n ∷ ns) [] e = absurd (omega arith)
-length_pieces (n ∷ ns) (c ∷ cs) e = ap suc (length_pieces ns cs (omega arith))
+length_pieces : (bs : List Block) → length (pieces bs) ≡ length bs
+length_pieces [] = refl
+length_pieces (b ∷ bs) = ap suc (length_pieces bs)
 
-gap_first : (c : ℕ) (ns cs : List ℕ) → length ns ≡ length cs → c ≢ 0 → gap_of c (blocks ns cs) ≡ replicate (cond (eqb (get_or cs 0 0) c) 1 0) 1
-gap_first c [] [] e z = rw (ne_eqb 0 c (λ q. z (sym q)))
-gap_first c [] (d ∷ ds) e z = absurd (omega arith)
-gap_first c (n ∷ ns) [] e z = absurd (omega arith)
-gap_first c (n ∷ ns) (d ∷ ds) e z = ⊎_elim
-    (λ (t : (c ≡ d) × (eqb c d ≡ true)). rw (t.1, eq-eqb d c (sym t.0)))
-    (λ (t : (c ≢ d) × (eqb c d ≡ false)). rw (t.1, ne_eqb d c (λ q. t.0 (sym q))))
-    (nat_eq_cases c d)
+gap_first : (c : ℕ) (bs : List Block) → c ≢ 0 → gap_of c bs ≡ replicate (cond (eqb (get_or bs 0 (0 of 0)).colour c) 1 0) 1
+gap_first c [] z = rw (ne_eqb 0 c (λ q. z (sym q)))
+gap_first c (b ∷ bs) z = ⊎_elim
+    (λ (t : (c ≡ b.colour) × (eqb c b.colour ≡ true)). rw (t.1, eq-eqb b.colour c (sym t.0)))
+    (λ (t : (c ≢ b.colour) × (eqb c b.colour ≡ false)). rw (t.1, ne_eqb b.colour c (λ q. t.0 (sym q))))
+    (nat_eq_cases c b.colour)
 
-abbrev piece_of : List ℕ → List ℕ → ℕ → List ℕ
-piece_of ns cs b = replicate (get_or ns b 0) (get_or cs b 0) ++ replicate (cond (eqb (get_or cs (b + 1) 0) (get_or cs b 0)) 1 0) 1
+abbrev piece_of : Block → Block → List ℕ
+piece_of b next = replicate b.size b.colour ++ replicate (cond (eqb next.colour b.colour) 1 0) 1
 
-piece_of_lem : (ns cs : List ℕ) → length ns ≡ length cs → Legal (blocks ns cs) → (b : ℕ) → b < length ns
-    → get_or (pieces (blocks ns cs)) b [] ≡ piece_of ns cs b
-piece_of_lem [] cs e l b h = absurd (not-suc-le-zero h)
-piece_of_lem (n ∷ ns) [] e l b h = absurd (omega arith)
-piece_of_lem (n ∷ ns) (c ∷ cs) e (legal_block s k d l) zero h = ap (λ (t : List ℕ). replicate n c ++ t) (gap_first c ns cs (omega arith) (colour_some k))
-piece_of_lem (n ∷ ns) (c ∷ cs) e (legal_block s k d l) (suc b) h =
-    let q : suc b + 1 ≡ suc (b + 1) = omega arith in
-    piece_of_lem ns cs (omega arith) l b (le_of_suc-le-suc h)
-    ∙ ap (λ (x : ℕ). replicate (get_or ns b 0) (get_or cs b 0) ++ replicate (cond (eqb (get_or (c ∷ cs) x 0) (get_or cs b 0)) 1 0) 1) (sym q)
+piece_of_lem : (bs : List Block) → Legal bs → (i : ℕ) → i < length bs
+    → get_or (pieces bs) i [] ≡ piece_of (get_or bs i (0 of 0)) (get_or bs (i + 1) (0 of 0))
+piece_of_lem [] l i h = absurd (not-suc-le-zero h)
+piece_of_lem (b ∷ bs) (legal_block s k d l) zero h = ap (λ (t : List ℕ). replicate b.size b.colour ++ t) (gap_first b.colour bs (colour_some k))
+piece_of_lem (b ∷ bs) (legal_block s k d l) (suc i) h =
+    let q : suc i + 1 ≡ suc (i + 1) = omega arith in
+    piece_of_lem bs l i (le_of_suc-le-suc h)
+    ∙ ap (λ (x : ℕ). piece_of (get_or bs i (0 of 0)) (get_or (b ∷ bs) x (0 of 0))) (sym q)
 
-size_some : (ns cs : List ℕ) → length ns ≡ length cs → Legal (blocks ns cs) → (b : ℕ) → b < length ns → 1 ≤ get_or ns b 0
-size_some [] cs e l b h = absurd (not-suc-le-zero h)
-size_some (n ∷ ns) [] e l b h = absurd (omega arith)
-size_some (n ∷ ns) (c ∷ cs) e (legal_block s k d l) zero h = s
-size_some (n ∷ ns) (c ∷ cs) e (legal_block s k d l) (suc b) h = size_some ns cs (omega arith) l b (le_of_suc-le-suc h)
+size_some : (bs : List Block) → Legal bs → (i : ℕ) → i < length bs → 1 ≤ (get_or bs i (0 of 0)).size
+size_some [] l i h = absurd (not-suc-le-zero h)
+size_some (b ∷ bs) (legal_block s k d l) zero h = s
+size_some (b ∷ bs) (legal_block s k d l) (suc i) h = size_some bs l i (le_of_suc-le-suc h)
 
--- ---- the array
+-- ---- the struct
 
-module _ {n : ℕ} {sizes colours xs memo work ys : List ℕ} (S : Solvable n sizes colours xs memo work) (H : Holds xs n sizes colours ys) where
-  abbrev bs : List Block
-  bs = blocks sizes colours
-
+module _ {n : ℕ} {bs : List Block} {memo work : List ℕ} {h k : HeldLine} (S : Solvable n bs memo work) (H : Holds h n bs k) where
   legal : Legal bs
   legal = test_legal bs S.legal
 
-  sized : (b : ℕ) → b < length sizes → 1 ≤ (held ys).size b
-  sized b h = rw (H.size_is b h) (size_some sizes colours S.fits.paired legal b h)
+  sized : (b : ℕ) → b < length bs → 1 ≤ (held k).size b
+  sized b l = rw (H.size_is b l) (size_some bs legal b l)
 
-  pub summable : Summable n (length sizes) ys
+  pub summable : Summable k
   summable = record {
-    short = S.fits.short;
-    few = S.fits.few;
-    sized = sized;
+    short = omega (arith, H.length_is, S.fits.short);
+    few = omega (arith, H.count_is, S.fits.few);
+    sized = λ b l. sized b (omega (arith, H.count_is));
     no_sum = H.no_sum;
-    long = omega (arith, H.long, S.fits.long);
   }
 
-  module _ {zs : List ℕ} (K : KeptBut ys zs) where
+  module _ {m : HeldLine} (K : KeptBut k m) where
     abbrev L : Line
-    L = held zs
+    L = held m
 
     pub length_is : L.length ≡ n
-    length_is = K.same 258 (λ u v. omega arith) ∙ H.cells
+    length_is = kept_length K ∙ H.length_is
 
-    pub count_is : L.count ≡ length sizes
-    count_is = K.same 259 (λ u v. omega arith) ∙ H.count
+    pub count_is : L.count ≡ length bs
+    count_is = kept_count K ∙ H.count_is
 
-    cell_is : (i : ℕ) → i < 64 → L.cell i ≡ get_or xs i 0
-    cell_is i h = K.same i (λ u v. omega arith) ∙ H.cell_is i h
+    cell_is : (i : ℕ) → L.cell i ≡ get_or h.cells i 0
+    cell_is i = kept_cell K i ∙ ap (λ (l : List ℕ). get_or l i 0) H.cells_same
 
-    size_same : (b : ℕ) → b < length sizes → L.size b ≡ (held ys).size b
-    size_same b h = kept_size K b (omega (arith, S.fits.few))
-
-    colour_same : (b : ℕ) → b ≤ length sizes → L.colour b ≡ (held ys).colour b
-    colour_same b h = kept_colour K b (omega (arith, S.fits.few))
+    space_kept : (b : ℕ) → space L b ≡ space (held k) b
+    space_kept b = space_as (held k) L b (λ c l. kept_size K c) (λ c l. kept_colour K c) b (omega arith)
 
     pieces_are : PiecesOf L (pieces bs)
     pieces_are = record {
-      many = length_pieces sizes colours S.fits.paired ∙ sym count_is;
+      many = length_pieces bs ∙ sym count_is;
       each = λ b h.
-          let v : b < length sizes = omega (arith, count_is) in
-          piece_of_lem sizes colours S.fits.paired legal b v
+          let v : b < length bs = omega (arith, count_is) in
+          piece_of_lem bs legal b v
           ∙ sym (rw (
-            size_same b v,
+            kept_size K b,
             H.size_is b v,
-            colour_same b (omega arith),
+            kept_colour K b,
             H.colour_is b (omega arith),
-            colour_same (b + 1) (omega arith),
+            kept_colour K (b + 1),
             H.colour_is (b + 1) (omega arith),
           ));
     }
@@ -126,13 +115,13 @@ module _ {n : ℕ} {sizes colours xs memo work ys : List ℕ} (S : Solvable n si
     -- ---- what is told
 
     abbrev cells : List ℕ
-    cells = take n xs
+    cells = take n h.cells
 
     cells_long : length cells ≡ n
-    cells_long = length-take-le n xs (omega (arith, S.fits.short, S.fits.long))
+    cells_long = length-take-le n h.cells (omega (arith, S.fits.short, H.long, ap (λ (l : List ℕ). length l) H.cells_same))
 
     cell_same : (i : ℕ) → i < length cells → L.cell i ≡ get_or cells i 0
-    cell_same i h = cell_is i (omega (arith, cells_long, S.fits.short)) ∙ sym (get_or-take n xs i 0 (omega (arith, cells_long)))
+    cell_same i l = cell_is i ∙ sym (get_or-take n h.cells i 0 (omega (arith, cells_long)))
 
     abbrev P : List ℕ → Type 0
     P = Lay (pieces bs) (length cells)
@@ -144,19 +133,17 @@ module _ {n : ℕ} {sizes colours xs memo work ys : List ℕ} (S : Solvable n si
     to_fit s = solution_fit pieces_are (length_is ∙ sym cells_long) cell_same s
 
     -- more than there is room for: no placement agrees
-    pub over_told : {work' : List ℕ} → n < space (held ys) (length sizes) → 64 ≤ length work' → Tried n bs xs false work'
-    over_told h l = record {
+    pub over_told : {work' : List ℕ} → k.length < space (held k) k.count → 64 ≤ length work' → Tried n bs h.cells false work'
+    over_told o l = record {
       tells = line_only bs cells none (record { never = λ p f. omega (arith, space_le L L.count (to_solution f).shows, same_space, length_is) });
       long = l;
     }
       where
-        same_space : space L L.count ≡ space (held ys) (length sizes)
-        same_space =
-            ap (space L) count_is
-            ∙ space_as (held ys) L (length sizes) size_same colour_same (length sizes) (omega arith)
+        same_space : space L L.count ≡ space (held k) k.count
+        same_space = ap (space L) (kept_count K) ∙ space_kept k.count
 
     -- what the solver finds, for the whole line
-    module _ {work₀ memo' work' : List ℕ} {p b : ℕ} (pe : p ≡ n) (be : b ≡ length sizes) where
+    module _ {work₀ memo' work' : List ℕ} {p b : ℕ} (pe : p ≡ n) (be : b ≡ length bs) where
       whole : {r : Bool} → Tell L (Fits L p b) p r work₀ memo' work' → Tell L (Solution L) L.length r work₀ memo' work'
       whole {r} t = subst (λ (x : ℕ). Tell L (Fits L x L.count) x r work₀ memo' work') (pe ∙ sym length_is)
           (subst (λ (y : ℕ). Tell L (Fits L p y) p r work₀ memo' work') (be ∙ sym count_is) t)
@@ -186,25 +173,23 @@ module _ {n : ℕ} {sizes colours xs memo work ys : List ℕ} (S : Solvable n si
       told true t = found t
       told false t = record { never = λ p f. t.answer.decides.no refl ((λ i. get_or p i 0), to_solution f) }
 
-      pub solver_told : (r : Bool) → Tell L (Fits L p b) p r work₀ memo' work' → Tried n bs xs r work'
+      pub solver_told : (r : Bool) → Tell L (Fits L p b) p r work₀ memo' work' → Tried n bs h.cells r work'
       solver_told r t = record {
         tells = line_only bs cells (outcome r (take n work')) (told r (whole t));
         long = t.good.long;
       }
 
     -- what the solver is asked
-    module _ (sums : (b : ℕ) → b ≤ length sizes → L.sum b ≡ space (held ys) b - 1) where
+    module _ (sums : (b : ℕ) → b ≤ k.count → L.sum b ≡ space (held k) b - 1) where
       legal_line : LegalLine L
       legal_line = record {
         short = omega (arith, length_is, S.fits.short);
         few = omega (arith, count_is, S.fits.few);
-        sized = λ b h. rw (size_same b (omega (arith, count_is))) (sized b (omega (arith, count_is)));
-        sums = λ b h.
-            sums b (omega (arith, count_is))
-            ∙ ap (λ x. x - 1) (sym (space_as (held ys) L (length sizes) size_same colour_same b (omega (arith, count_is))));
+        sized = λ b l. rw (kept_size K b) (sized b (omega (arith, count_is)));
+        sums = λ b l. sums b (omega (arith, kept_count K)) ∙ ap (λ x. x - 1) (sym (space_kept b));
       }
 
-      pub asked : {memo' : List ℕ} {p b : ℕ} → p ≡ n → b ≡ length sizes → length memo' ≡ length memo → Cleared memo' ((length sizes + 1) * 64)
+      pub asked : {memo' : List ℕ} {p b : ℕ} → p ≡ n → b ≡ length bs → length memo' ≡ length memo → Cleared memo' ((b + 1) * 64)
           → Ask L p b memo' work
       unfolding Rest Cleared
       asked {memo'} {p} {b} pe be m C = record {

@@ -1,48 +1,45 @@
 -- What holding a line and solving it ask and tell.
 use Rattle.std.specs.Prelude.{◌≡◌, Bool, true, false, List, ℕ, ◌-◌, ◌≤◌, ◌<◌, length, get_or, take, replicate}
 use Rattle.std.proofs.Math.Option.{Option, none, some}
-use Rattle.rules.specs.Block.{Block, blocks, illegal}
+use Rattle.rules.specs.Block.{Block, ◌of◌, illegal}
 use Rattle.rules.specs.Binary.{line_answer}
 use Rattle.rules.specs.Refusal.{memo_size}
+use Rattle.filling.specs.declared.HeldLine.{HeldLine}
 use Rattle.filling.specs.Filling.{held, space}
 
--- ---- the array that holds a line
+-- ---- the struct that holds a line
 
--- the blocks have room in the array beside the cells
-pub record Holdable (n : ℕ) (sizes colours xs : List ℕ) : Type 0 where
+-- the blocks have room in the struct beside the cells
+pub record Holdable (n : ℕ) (bs : List Block) : Type 0 where
   pub short : n ≤ 64
-  pub paired : length sizes ≡ length colours
-  pub few : length sizes ≤ 64
-  pub long : 260 ≤ length xs
+  pub few : length bs ≤ 64
 
--- the array xs' holds the cells that xs has, and these blocks; after the last colour stands 0, and so does the sum of no blocks
-pub record Holds (xs : List ℕ) (n : ℕ) (sizes colours xs' : List ℕ) : Type 0 where
-  pub long : length xs' ≡ length xs
-  pub cells : (held xs').length ≡ n
-  pub count : (held xs').count ≡ length sizes
-  pub cell_is : (i : ℕ) → i < 64 → (held xs').cell i ≡ get_or xs i 0
-  pub size_is : (b : ℕ) → b < length sizes → (held xs').size b ≡ get_or sizes b 0
-  pub colour_is : (b : ℕ) → b ≤ length sizes → (held xs').colour b ≡ get_or colours b 0
-  pub no_sum : (held xs').sum 0 ≡ 0
+-- h' holds the cells that h has, and these blocks; after the last colour stands 0, and so does the sum of no blocks
+pub record Holds (h : HeldLine) (n : ℕ) (bs : List Block) (h' : HeldLine) : Type 0 where
+  pub length_is : h'.length ≡ n
+  pub count_is : h'.count ≡ length bs
+  pub cells_same : h'.cells ≡ h.cells
+  pub long : length h'.cells ≡ 64
+  pub size_is : (b : ℕ) → b < length bs → (held h').size b ≡ (get_or bs b (0 of 0)).size
+  pub colour_is : (b : ℕ) → b ≤ length bs → (held h').colour b ≡ (get_or bs b (0 of 0)).colour
+  pub no_sum : (held h').sum 0 ≡ 0
 
 -- what the sums are asked of
-pub record Summable (n count : ℕ) (xs : List ℕ) : Type 0 where
-  pub short : n ≤ 64
-  pub few : count ≤ 64
-  pub sized : (b : ℕ) → b < count → 1 ≤ (held xs).size b
-  pub no_sum : (held xs).sum 0 ≡ 0
-  pub long : 260 ≤ length xs
+pub record Summable (h : HeldLine) : Type 0 where
+  pub short : h.length ≤ 64
+  pub few : h.count ≤ 64
+  pub sized : (b : ℕ) → b < h.count → 1 ≤ (held h).size b
+  pub no_sum : (held h).sum 0 ≡ 0
 
--- nothing but the sums of the array has changed
-pub record KeptBut (xs xs' : List ℕ) : Type 0 where
-  pub long : length xs' ≡ length xs
-  pub same : (i : ℕ) → (193 ≤ i → i < 258 → ⊥) → get_or xs' i 0 ≡ get_or xs i 0
+-- nothing but the sums has changed
+pub record KeptBut (h h' : HeldLine) : Type 0 where
+  pub same : h' ≡ record h { sums = h'.sums }
 
 -- r says whether the blocks' least space is within the length; if so the sums are there
-pub record Summed (n count : ℕ) (xs : List ℕ) (r : Bool) (xs' : List ℕ) : Type 0 where
-  pub kept : KeptBut xs xs'
-  pub sums : r ≡ true → (b : ℕ) → b ≤ count → (held xs').sum b ≡ space (held xs) b - 1
-  pub over : r ≡ false → n < space (held xs) count
+pub record Summed (h : HeldLine) (r : Bool) (h' : HeldLine) : Type 0 where
+  pub kept : KeptBut h h'
+  pub sums : r ≡ true → (b : ℕ) → b ≤ h.count → (held h').sum b ≡ space (held h) b - 1
+  pub over : r ≡ false → h.length < space (held h) h.count
 
 -- ---- the whole line
 
@@ -55,14 +52,14 @@ abbrev pub outcome : Bool → List ℕ → Option (List ℕ)
 outcome true m = some m
 outcome false m = none
 
-pub record Solvable (n : ℕ) (sizes colours xs memo work : List ℕ) : Type 0 where
+pub record Solvable (n : ℕ) (bs : List Block) (memo work : List ℕ) : Type 0 where
   pub some : 1 ≤ n
-  pub fits : Holdable n sizes colours xs
-  pub legal : illegal (blocks sizes colours) ≡ false
+  pub fits : Holdable n bs
+  pub legal : illegal bs ≡ false
   pub room : memo_size ≤ length memo
   pub clean : work ≡ replicate 64 0
 
--- r and the first n numbers of `work` tell the answer of the line whose cells are the first n of xs
-pub record Tried (n : ℕ) (bs : List Block) (xs : List ℕ) (r : Bool) (work : List ℕ) : Type 0 where
-  pub tells : line_answer bs (take n xs) ≡ outcome r (take n work)
+-- r and the first n numbers of `work` tell the answer of the line whose cells are the first n of these
+pub record Tried (n : ℕ) (bs : List Block) (cells : List ℕ) (r : Bool) (work : List ℕ) : Type 0 where
+  pub tells : line_answer bs (take n cells) ≡ outcome r (take n work)
   pub long : 64 ≤ length work

@@ -2,16 +2,15 @@
 use mathlib.Core.Path.{◌≡◌, refl, sym, ap, ap₂, ◌∙◌}
 use mathlib.Core.Bool.{Bool, true, false}
 use mathlib.Core.Logic.{⊎_elim}
-use mathlib.Core.List.{List, [], ◌∷◌}
+use mathlib.Core.List.{List, ◌∷◌}
 use Prim.Native.Nat.{ℕ, zero, suc, ◌+◌, ◌-◌, ◌≤◌, ◌<◌}
 use native.Mathlib.Omega.{arith}
 use borrow.Author.Tests.{lt-ltb, le-ltb, eq-eqb, ne_eqb, ltb-true, ltb-false}
 use lib.Dec.{eqb, ltb}
-use lib.ListN.{length, set, length-set}
+use lib.ListN.{length, set}
 use lib.Seq.{get_or-set_same, get_or-set_other}
 use Rattle.rules.specs.declared.LinePosition.{LinePosition}
-use Rattle.rules.specs.declared.LinePosition.TheVariants.{Row, Column}
-use Rattle.rules.specs.Board.{row, column, On, cross}
+use Rattle.rules.specs.Board.{row, column}
 use Rattle.rules.specs.Run.{same_line_of}
 use Rattle.rules.proofs.Tests.{nat_eq_cases}
 use Rattle.stack.specs.Stack.{line_of_code, stack_of}
@@ -23,9 +22,6 @@ code_row y = rw (le-ltb (y + 64) 64 (omega arith)) (ap row (omega arith))
 
 pub code_column : (x : ℕ) → x < 64 → line_of_code x ≡ column x
 code_column x h = rw (lt-ltb x 64 h)
-
-pub row_code : (n : ℕ) → 64 ≤ n → row (n - 64) ≡ line_of_code n
-row_code n h = rw (le-ltb n 64 h)
 
 -- two codes are the same number exactly if they are the same line
 pub same_code : (a b : ℕ) → same_line_of (line_of_code a) (line_of_code b) ≡ eqb a b
@@ -40,10 +36,6 @@ same_code a b = go (ltb a 64) refl (ltb b 64) refl
     go false e true f = rw (e, f) (sym (ne_eqb a b (λ q. omega (arith, ltb-false a 64 e, ltb-true b 64 f))))
     go false e false f =
         rw (e, f) (eqv (a - 64) (b - 64) (λ q. omega (arith, ltb-false a 64 e, ltb-false b 64 f)) (λ q. omega arith))
-
-pub cross_small : (l : LinePosition) (j : ℕ) → j < 64 → On 64 64 (cross l j)
-cross_small (Row y) j h = h
-cross_small (Column x) j h = h
 
 -- ---- the stack
 
@@ -61,10 +53,3 @@ stack_set s i v (suc n) h =
 pub stack_put : (s : List ℕ) (n v : ℕ) → n < length s → stack_of (set s n v) (suc n) ≡ line_of_code v ∷ stack_of s n
 stack_put s n v h =
     ap₂ (λ (c : ℕ) (st : List LinePosition). line_of_code c ∷ st) (get_or-set_same s n v 0 h) (stack_set s n v n (omega arith))
-
--- two of them, on an empty stack
-pub two_lines : (s : List ℕ) (a b : ℕ) {k l : LinePosition} → 2 ≤ length s → line_of_code a ≡ k → line_of_code b ≡ l
-    → stack_of (set (set s 0 a) 1 b) 2 ≡ l ∷ k ∷ []
-two_lines s a b h e f =
-    stack_put (set s 0 a) 1 b (rw length-set h)
-    ∙ ap₂ (λ (x : LinePosition) (st : List LinePosition). x ∷ st) f (stack_put s 0 a (omega arith) ∙ ap (λ x. x ∷ []) e)

@@ -10,8 +10,7 @@ use native.Mathlib.Numerals.{add-one}
 use native.Mathlib.Omega.{arith}
 use borrow.Author.Tests.{lt-ltb, le-ltb, eq-eqb, ne_eqb}
 use lib.Dec.{eqb}
-use lib.ListN.{length, set, length-set, length-map, length-append, length-reverse}
-use lib.Seq.{sets, length-sets}
+use lib.ListN.{length, length-map, length-append, length-reverse}
 use Rattle.rules.specs.declared.LinePosition.{LinePosition}
 use Rattle.rules.specs.Board.{row, column}
 use Rattle.rules.specs.Run.{up_from, all_lines, distance, sorted, full_stack}
@@ -19,11 +18,11 @@ use Rattle.rules.proofs.Lists.{map-mem}
 use Rattle.rules.proofs.Stacks.{up_from_mem, length-full_stack}
 use Rattle.rules.proofs.Tests.{Compared, nat_eq_cases, below?}
 use Rattle.rules.specs.Refusal.{stack_size}
-use Rattle.loops.specs.Put.{Put}
-use Rattle.loops.proofs.Going.{Going, going_start, going_puts, going_done}
-use Rattle.stack.specs.Stack.{line_of_code, stack_of}
-use Rattle.stack.specs.Steps.{code_at, around, codes_from}
-use Rattle.stack.proofs.Coded.{code_row, code_column, stack_put}
+use Rattle.stack.specs.declared.Stack.{Stack}
+use Rattle.stack.specs.Stack.{line_of_code, stack_of, Starts}
+use Rattle.stack.specs.Steps.{code_at, around, codes_from, Piled}
+use Rattle.stack.proofs.Coded.{code_row, code_column}
+use Rattle.stack.proofs.Piling.{Leaving, piled_count, leave_more, leave_count, leave_none}
 use Rattle.stack.proofs.Buckets.{near, buckets, bucket_all, sorted_buckets}
 
 -- ---- the two lines at a distance
@@ -143,15 +142,6 @@ module _ (w h : ℕ) (wide : w ≤ 64) (high : h ≤ 64) where
       sym (length-map (codes_from w h 0 33) line_of_code) ∙ ap length codes_sorted ∙ sym (length-reverse (sorted w h (all_lines w h)))
       ∙ length-full_stack w h
 
--- ---- the stack after the codes were stored
-
-stack_sets : (vs s : List ℕ) (n : ℕ) → n + length vs ≤ length s → stack_of (sets s n vs) (n + length vs) ≡ reverse_aux (map line_of_code vs) (stack_of s n)
-stack_sets [] s n p = ap (stack_of s) (add-zero n)
-stack_sets (v ∷ vs) s n p =
-    let e : n + suc (length vs) ≡ suc n + length vs = omega arith in
-    ap (stack_of (sets (set s n v) (suc n) vs)) e ∙ stack_sets vs (set s n v) (suc n) (omega (arith, length-set s n v))
-    ∙ ap (λ (st : List LinePosition). reverse_aux (map line_of_code vs) st) (stack_put s n v (omega arith))
-
 -- ---- the lines at one distance, laid out one after the other
 
 module _ (base n d : ℕ) where
@@ -174,26 +164,21 @@ module _ (base n d : ℕ) where
   around_low p =
       omega (arith, ap length (around_within p), length-append (code_at base n (n / 2 - d)) (cond (eqb d 0) [] (code_at base n (n / 2 + d))))
 
-  pub around_high : d ≤ n / 2 → d ≢ 0 → {s s' : List ℕ} {i j : ℕ} → Put s i (code_at base n (n / 2 - d)) j s' → i + length (around base n d) ≤ length s
-      → j + length (code_at base n (n / 2 + d)) ≤ length s'
-  around_high p e {s} {s'} {i} {j} q r = omega (
+  pub around_high : d ≤ n / 2 → d ≢ 0 → {s s' : Stack} → Piled s (code_at base n (n / 2 - d)) s' → s.count + length (around base n d) ≤ length s.codes.now
+      → s'.count + length (code_at base n (n / 2 + d)) ≤ length s'.codes.now
+  around_high p e {s} {s'} q r = omega (
     arith,
-    q.end,
-    ap length q.holds,
-    length-sets s i (code_at base n (n / 2 - d)),
+    piled_count q,
+    q.kept.long,
     ap length (around_two p e),
     length-append (code_at base n (n / 2 - d)) (code_at base n (n / 2 + d)),
   )
 
 -- ---- the loop over the distances
 
--- the codes of the distances below d are laid out in the first n places, and those that are left give the whole
-pub record Laying (w h : ℕ) (s₀ s : List ℕ) (n d : ℕ) : Type 0 where
-  pub upto : d ≤ 33
-  pub going : Going s₀ 0 (codes_from w h 0 33) s n (codes_from w h d (33 - d))
-
-pub lay_none : (w h : ℕ) (s₀ : List ℕ) → Laying w h s₀ s₀ 0 0
-lay_none w h s₀ = record { upto = omega arith; going = going_start s₀ 0 (codes_from w h 0 33) }
+-- the lines of the distances below d are pushed, and those that are left give the whole
+pub record Ordering (w h : ℕ) (s₀ s : Stack) (d : ℕ) : Type 0 where
+  pub left : Leaving s₀ (codes_from w h 0 33) s (codes_from w h d (33 - d))
 
 codes_step : (w h d : ℕ) → d < 33 → codes_from w h d (33 - d) ≡ around 0 w d ++ (around 64 h d ++ codes_from w h (d + 1) (33 - (d + 1)))
 unfolding codes_from
@@ -203,42 +188,48 @@ codes_end : (w h d : ℕ) → 33 ≤ d → codes_from w h d (33 - d) ≡ []
 unfolding codes_from
 codes_end w h d p = let e : 33 - d ≡ 0 = omega arith in rw e
 
-module _ {w h : ℕ} {s₀ s : List ℕ} {n d : ℕ} (v : Laying w h s₀ s n d) where
+module _ {w h : ℕ} {s₀ s : Stack} {d : ℕ} (v : Ordering w h s₀ s d) where
   module _ (more : d < 33) where
-    after_columns : {s₁ : List ℕ} {n₁ : ℕ} → Put s n (around 0 w d) n₁ s₁
-        → Going s₀ 0 (codes_from w h 0 33) s₁ n₁ (around 64 h d ++ codes_from w h (d + 1) (33 - (d + 1)))
-    after_columns p = going_puts v.going (codes_step w h d more) p
+    after_columns : {s₁ : Stack} → Piled s (around 0 w d) s₁
+        → Leaving s₀ (codes_from w h 0 33) s₁ (around 64 h d ++ codes_from w h (d + 1) (33 - (d + 1)))
+    after_columns p = leave_more v.left (codes_step w h d more) p
 
-    pub lay_more : {s₁ s₂ : List ℕ} {n₁ n₂ : ℕ} → Put s n (around 0 w d) n₁ s₁ → Put s₁ n₁ (around 64 h d) n₂ s₂ → Laying w h s₀ s₂ n₂ (d + 1)
-    lay_more p q = record { upto = omega arith; going = going_puts (after_columns p) refl q }
+    pub order_more : {s₁ s₂ : Stack} → Piled s (around 0 w d) s₁ → Piled s₁ (around 64 h d) s₂ → Ordering w h s₀ s₂ (d + 1)
+    order_more p q = record { left = leave_more (after_columns p) refl q }
 
-    module _ (wide : w ≤ 64) (high : h ≤ 64) (room : stack_size ≤ length s₀) where
+    module _ (wide : w ≤ 64) (high : h ≤ 64) (fresh : s₀.count ≡ 0) (room : stack_size ≤ length s₀.codes.now) where
       -- there is room for the columns, and then for the rows
-      pub lay_columns : n + length (around 0 w d) ≤ length s
-      lay_columns = omega (
+      pub room_columns : s.count + length (around 0 w d) ≤ length s.codes.now
+      room_columns = omega (
         arith,
-        v.going.count,
-        v.going.long,
+        leave_count v.left,
+        v.left.kept.long,
         ap length (codes_step w h d more),
         length-append (around 0 w d) (around 64 h d ++ codes_from w h (d + 1) (33 - (d + 1))),
         codes_length w h wide high,
       )
 
-      pub lay_rows : {s₁ : List ℕ} {n₁ : ℕ} → Put s n (around 0 w d) n₁ s₁ → n₁ + length (around 64 h d) ≤ length s₁
-      lay_rows p = omega (
+      pub room_rows : {s₁ : Stack} → Piled s (around 0 w d) s₁ → s₁.count + length (around 64 h d) ≤ length s₁.codes.now
+      room_rows p = omega (
         arith,
-        (after_columns p).count,
-        (after_columns p).long,
+        leave_count (after_columns p),
+        (after_columns p).kept.long,
         length-append (around 64 h d) (codes_from w h (d + 1) (33 - (d + 1))),
         codes_length w h wide high,
       )
 
-  pub lay_done : 33 ≤ d → w ≤ 64 → h ≤ 64 → stack_size ≤ length s₀ → (n ≡ w + h) × (stack_of s n ≡ full_stack w h)
-  unfolding full_stack
-  lay_done last wide high room =
-      let p = going_done v.going (codes_end w h d last) in
-      let e = codes_length w h wide high in (
-        omega (arith, p.end),
-        ap₂ stack_of p.holds p.end ∙ stack_sets (codes_from w h 0 33) s₀ 0 (omega arith)
-            ∙ ap (λ (l : List LinePosition). reverse_aux l []) (codes_sorted w h wide high),
-      )
+  module _ (last : 33 ≤ d) (wide : w ≤ 64) (high : h ≤ 64) (fresh : s₀.count ≡ 0) where
+    piled_all : Piled s₀ (codes_from w h 0 33) s
+    piled_all = leave_none v.left (codes_end w h d last)
+
+    pub order_starts : Starts (full_stack w h) s₀.codes.now s
+    unfolding full_stack
+    order_starts = record {
+      lines =
+          piled_all.lines ∙ ap (λ n. reverse_aux (map line_of_code (codes_from w h 0 33)) (stack_of s₀.codes.now n)) fresh
+          ∙ ap (λ (l : List LinePosition). reverse_aux l []) (codes_sorted w h wide high);
+      long = v.left.kept.long;
+    }
+
+    pub order_count : s.count ≡ w + h
+    order_count = omega (arith, piled_count piled_all, codes_length w h wide high)

@@ -10,15 +10,17 @@ use native.Mathlib.Omega.{arith}
 use borrow.Author.Tests.{eq-eqb, ne_eqb, eqb-true}
 use lib.Dec.{eqb}
 use lib.ListN.{length, get_or, set, drop, length-set, length-append, length-map}
-use lib.Seq.{drop-cons, drop-length, get_or-set_other}
+use lib.Seq.{drop-cons, get_or-set_other}
 use Rattle.rules.specs.declared.LinePosition.{LinePosition}
 use Rattle.rules.specs.declared.LinePosition.TheVariants.{Row, Column}
 use Rattle.rules.specs.Board.{cross}
 use Rattle.rules.specs.Run.{same_line_of, remove, push_all, changed}
 use Rattle.rules.proofs.Stacks.{remove_past, changed_in}
-use Rattle.stack.specs.Stack.{line_of_code, stack_of, Pushable}
+use Rattle.stack.specs.declared.Stack.{Stack}
+use Rattle.stack.specs.Stack.{line_of_code, stack_of, lines_on, Kept, Pushable}
 use Rattle.stack.specs.Steps.{Comparable, crosses, without}
-use Rattle.stack.proofs.Coded.{same_code, code_row, code_column, length_stack, stack_put}
+use Rattle.stack.proofs.Coded.{same_code, code_row, code_column, stack_put}
+use Rattle.stack.proofs.Piling.{count_on}
 
 -- ---- pushing them one by one is dropping them all, and then putting them on top
 
@@ -114,9 +116,6 @@ pub record Packing (l : LinePosition) (js s₀ s : List ℕ) (i k : ℕ) : Type 
   pub packed : stack_of s k ≡ without l js (stack_of s₀ i)
   pub fresh : (t : ℕ) → i ≤ t → get_or s t 0 ≡ get_or s₀ t 0
 
-pub pack_none : (l : LinePosition) (js s₀ : List ℕ) → Packing l js s₀ s₀ 0 0
-pack_none l js s₀ = record { low = omega arith; long = refl; packed = refl; fresh = λ t h. refl }
-
 module _ {l : LinePosition} {js s₀ s : List ℕ} {i k : ℕ} (v : Packing l js s₀ s i k) where
   -- the next line on the stack is still as it was
   next : {b : Bool} → crosses l js (line_of_code (get_or s i 0)) ≡ b → crosses l js (line_of_code (get_or s₀ i 0)) ≡ b
@@ -152,9 +151,6 @@ module _ {before answer : List ℕ} (p : Comparable before answer) where
       → to_push j ≡ cond (eqb (get_or before j 0) (get_or answer j 0)) (to_push (suc j)) (j ∷ to_push (suc j))
   left_cons j h = rw (drop-cons before j 0 (omega (arith, p.long)), drop-cons answer j 0 h)
 
-  left_same : (j : ℕ) → j < length answer → get_or before j 0 ≡ get_or answer j 0 → to_push j ≡ to_push (suc j)
-  left_same j h q = left_cons j h ∙ rw (eq-eqb (get_or before j 0) (get_or answer j 0) q)
-
   left_more : (j : ℕ) → j < length answer → get_or before j 0 ≢ get_or answer j 0 → to_push j ≡ j ∷ to_push (suc j)
   left_more j h q = left_cons j h ∙ rw (ne_eqb (get_or before j 0) (get_or answer j 0) q)
 
@@ -169,78 +165,55 @@ module _ {before answer : List ℕ} (p : Comparable before answer) where
       go false e up = omega (arith, ap length e)
 
 -- the crossing lines of the changed indexes from j on are on top
-pub record Topping (before answer stack₀ : List ℕ) (n₀ : ℕ) (l : LinePosition) (stack : List ℕ) (n j : ℕ) : Type 0 where
+pub record Topping (before answer : List ℕ) (s₀ : Stack) (l : LinePosition) (s : Stack) (j : ℕ) : Type 0 where
   pub upto : j ≤ length answer
-  pub long : length stack ≡ length stack₀
-  pub is : stack_of stack n ≡ map (cross l) (changed j (drop j before) (drop j answer)) ++ stack_of stack₀ n₀
+  pub kept : Kept s₀ s
+  pub is : lines_on s ≡ map (cross l) (changed j (drop j before) (drop j answer)) ++ lines_on s₀
 
 module _ {before answer : List ℕ} (p : Comparable before answer) where
-  pub top_none : (stack₀ : List ℕ) (n₀ : ℕ) (l : LinePosition) → Topping before answer stack₀ n₀ l stack₀ n₀ (length answer)
-  top_none stack₀ n₀ l = record { upto = omega arith; long = refl; is = rw (← p.long, drop-length before) }
+  module _ {s₀ s : Stack} {j : ℕ} {l : LinePosition} (v : Topping before answer s₀ l s j) (more : 0 < j) where
+    below : lines_on s ≡ map (cross l) (to_push p (suc (j - 1))) ++ lines_on s₀
+    below = let e : j ≡ suc (j - 1) = omega arith in v.is ∙ ap (λ (i : ℕ). map (cross l) (to_push p i) ++ lines_on s₀) e
 
-  module _ {stack₀ stack : List ℕ} {n₀ n j : ℕ} {l : LinePosition} (v : Topping before answer stack₀ n₀ l stack n j) where
-    pub topped : j ≤ 0 → stack_of stack n ≡ map (cross l) (changed 0 before answer) ++ stack_of stack₀ n₀
-    topped h = let e : j ≡ 0 = omega arith in rw e at v.is
-
-    -- the index below: nothing changed there, or its crossing line is put on top
-    module _ (more : 0 < j) where
-      below : stack_of stack n ≡ map (cross l) (to_push p (suc (j - 1))) ++ stack_of stack₀ n₀
-      below = let e : j ≡ suc (j - 1) = omega arith in v.is ∙ ap (λ (i : ℕ). map (cross l) (to_push p i) ++ stack_of stack₀ n₀) e
-
-      pub top_same : get_or before (j - 1) 0 ≡ get_or answer (j - 1) 0 → Topping before answer stack₀ n₀ l stack n (j - 1)
-      top_same q = record {
-        upto = omega (arith, v.upto);
-        long = v.long;
-        is = below ∙ sym (ap (λ (js : List ℕ). map (cross l) js ++ stack_of stack₀ n₀) (left_same p (j - 1) (omega (arith, v.upto)) q));
-      }
-
-      module _ (d : get_or before (j - 1) 0 ≢ get_or answer (j - 1) 0) (room : length (changed 0 before answer) + n₀ ≤ length stack₀) where
-        pub top_room : n < length stack
-        top_room = omega (
-          arith,
-          room,
-          v.long,
-          v.upto,
-          length_stack stack n,
-          length_stack stack₀ n₀,
-          ap length below,
-          length-append (map (cross l) (to_push p (suc (j - 1)))) (stack_of stack₀ n₀),
-          length-map (to_push p (suc (j - 1))) (cross l),
-          ap length (left_more p (j - 1) (omega (arith, v.upto)) d),
-          left_fewer p (j - 1) (omega (arith, v.upto)),
-        )
-
-        pub top_one : (x : ℕ) → line_of_code x ≡ cross l (j - 1) → Topping before answer stack₀ n₀ l (set stack n x) (suc n) (j - 1)
-        top_one x e = record {
-          upto = omega (arith, v.upto);
-          long = length-set stack n x ∙ v.long;
-          is =
-              stack_put stack n x top_room ∙ ap₂ (λ (k : LinePosition) (st : List LinePosition). k ∷ st) e below
-              ∙ sym (ap (λ (js : List ℕ). map (cross l) js ++ stack_of stack₀ n₀) (left_more p (j - 1) (omega (arith, v.upto)) d));
-        }
+    -- a change at the index below: its crossing line is put on top
+    module _ (d : get_or before (j - 1) 0 ≢ get_or answer (j - 1) 0) where
+      pub top_room : length (changed 0 before answer) + s₀.count ≤ length s₀.codes.now → s.count < length s.codes.now
+      top_room room = omega (
+        arith,
+        room,
+        v.kept.long,
+        v.upto,
+        count_on s,
+        count_on s₀,
+        ap length below,
+        length-append (map (cross l) (to_push p (suc (j - 1)))) (lines_on s₀),
+        length-map (to_push p (suc (j - 1))) (cross l),
+        ap length (left_more p (j - 1) (omega (arith, v.upto)) d),
+        left_fewer p (j - 1) (omega (arith, v.upto)),
+      )
 
 -- ---- both
 
-module _ {before answer stack : List ℕ} {count : ℕ} {l : LinePosition} (p : Pushable before answer l stack count) where
+module _ {before answer : List ℕ} {s : Stack} {l : LinePosition} (p : Pushable before answer l s) where
   pub pushed_pair : Comparable before answer
   pushed_pair = record { long = p.long; short = p.short }
 
-  pub pushed_count : count ≤ length stack
-  pushed_count = omega (arith, p.space [] (λ j u. absurd (Memᴰ.not-nil u)), length_stack stack count)
+  pub pushed_count : s.count ≤ length s.codes.now
+  pushed_count = omega (arith, p.space [] (λ j u. absurd (Memᴰ.not-nil u)), count_on s)
 
   -- what was kept, and the crossing lines on top of it
-  pub pushed : {rest st : List LinePosition} → rest ≡ without l (changed 0 before answer) (stack_of stack count)
-      → st ≡ map (cross l) (changed 0 before answer) ++ rest → st ≡ push_all l (changed 0 before answer) (stack_of stack count)
-  pushed e f =
-      f ∙ ap (λ (t : List LinePosition). map (cross l) (changed 0 before answer) ++ t) e ∙ sym (apart l 0 before answer (stack_of stack count))
+  pub pushed : {rest st : List LinePosition} → rest ≡ without l (changed 0 before answer) (lines_on s)
+      → st ≡ map (cross l) (changed 0 before answer) ++ rest → st ≡ push_all l (changed 0 before answer) (lines_on s)
+  pushed e f = f ∙ ap (λ (t : List LinePosition). map (cross l) (changed 0 before answer) ++ t) e ∙ sym (apart l 0 before answer (lines_on s))
 
-  pub pushed_room : (stack' : List ℕ) (kept : ℕ) → stack_of stack' kept ≡ without l (changed 0 before answer) (stack_of stack count)
-      → length (changed 0 before answer) + kept ≤ length stack
-  pushed_room stack' kept e = omega (
+  pub pushed_room : (s' : Stack) → Kept s s' → lines_on s' ≡ without l (changed 0 before answer) (lines_on s)
+      → length (changed 0 before answer) + s'.count ≤ length s'.codes.now
+  pushed_room s' k e = omega (
     arith,
     ap length (pushed e refl),
-    length-append (map (cross l) (changed 0 before answer)) (stack_of stack' kept),
+    length-append (map (cross l) (changed 0 before answer)) (lines_on s'),
     length-map (changed 0 before answer) (cross l),
-    length_stack stack' kept,
+    count_on s',
+    k.long,
     p.space (changed 0 before answer) (λ j u. omega (arith, p.long, changed_in 0 j before answer u)),
   )

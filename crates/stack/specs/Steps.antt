@@ -1,6 +1,9 @@
 -- What the private functions say. A reader of the public ones needs none of it.
-use Rattle.std.specs.Prelude.{◌≡◌, Bool, false, cond, ◌||◌, List, [], ◌∷◌, ◌++◌, ℕ, zero, suc, ◌+◌, ◌-◌, ◌/◌, ◌≤◌, eqb, ltb, length}
+use Rattle.std.specs.Prelude.{◌≡◌, Bool, false, cond, ◌||◌, List, [], ◌∷◌, ◌++◌, map, ℕ, zero, suc, ◌+◌, ◌-◌, ◌/◌, ◌≤◌, eqb, ltb, length}
+use mathlib.Core.List.{reverse_aux}
 use Rattle.rules.specs.declared.LinePosition.{LinePosition}
+use Rattle.stack.specs.declared.Stack.{Stack}
+use Rattle.stack.specs.Stack.{line_of_code, lines_on, Kept}
 use Rattle.rules.specs.Board.{cross}
 use Rattle.rules.specs.Run.{same_line_of}
 
@@ -16,6 +19,11 @@ around base n d = cond (ltb (n / 2) d) [] (code_at base n (n / 2 - d) ++ cond (e
 unfoldable pub codes_from : (w h d k : ℕ) → List ℕ
 codes_from w h d zero = []
 codes_from w h d (suc k) = around 0 w d ++ (around 64 h d ++ codes_from w h (suc d) k)
+
+-- the lines with these codes are pushed, one after the other
+pub record Piled (s : Stack) (vs : List ℕ) (s' : Stack) : Type 0 where
+  pub kept : Kept s s'
+  pub lines : lines_on s' ≡ reverse_aux (map line_of_code vs) (lines_on s)
 
 -- the answer has as many cells as the line had, few enough
 pub record Comparable (before answer : List ℕ) : Type 0 where

@@ -1,4 +1,4 @@
-// A line as a number: a column is its index, a row its index plus 64.
+// A line as a number, as the lent stack holds it (C has no other type for it): a column is its index, a row its index plus 64.
 ghost use Rattle.std.specs.Prelude.{◌≡◌};
 ghost use Rattle.rules.specs.Board.{On, cross};
 ghost use Rattle.stack.specs.Stack.{line_of_code};

@@ -1,5 +1,5 @@
 -- What the functions of one line of a run ask and tell.
-use Rattle.std.specs.Prelude.{◌≡◌, true, false, ℕ, ◌+◌, ◌≤◌, ◌<◌, length}
+use Rattle.std.specs.Prelude.{◌≡◌, Bool, true, false, ℕ, ◌+◌, ◌≤◌, ◌<◌, length}
 use mathlib.Core.List.{List, ◌∷◌, Memᴰ}
 use Rattle.std.proofs.Math.Option.{none, some}
 use Rattle.rules.specs.Binary.{line_answer}
@@ -9,25 +9,28 @@ use Rattle.rules.specs.Card.{Card, clue_of, solve_straight}
 use Rattle.rules.specs.Run.{push_all, changed, room}
 use Rattle.rules.specs.declared.LinePosition.{LinePosition}
 use Rattle.rules.specs.Refusal.{memo_size, stack_size}
-use Rattle.solver.specs.Steps.{outcome}
-use Rattle.loops.specs.Put.{Put}
-use Rattle.grid.specs.Grid.{Grid, changes, news}
-use Rattle.stack.specs.Stack.{stack_of, Lines}
+use Rattle.grid.specs.declared.report.Report.{Report}
+use Rattle.grid.specs.Grid.{Grid, changes, news, Reports}
+use Rattle.stack.specs.declared.Stack.{Stack}
+use Rattle.stack.specs.Stack.{lines_on, Lines}
 use Rattle.card.specs.Steps.{RightCard}
-use Rattle.update.specs.declared.Attempt.{Attempt}
-use Rattle.update.specs.declared.Step.{Step}
 
 -- the stack has room for the crossing lines of any of the line's n indexes
-pub record Roomy (n : ℕ) (l : LinePosition) (stack : List ℕ) (count : ℕ) : Type 0 where
-  pub space : (js : List ℕ) → ((j : ℕ) → Memᴰ j js → j < n) → length (push_all l js (stack_of stack count)) < length stack
+pub record Roomy (n : ℕ) (l : LinePosition) (s : Stack) : Type 0 where
+  pub space : (js : List ℕ) → ((j : ℕ) → Memᴰ j js → j < n) → length (push_all l js (lines_on s)) < length s.codes.now
 
--- the attempt tells the answer of the line whose cells these are; where there is one, the crossing lines of its changes are pushed
-pub record Attempted (bs : List Block) (l : LinePosition) (cells stack : List ℕ) (count : ℕ) (r : Attempt) (answer' stack' : List ℕ) : Type 0 where
-  pub tells : line_answer bs cells ≡ outcome r.solved answer'
-  pub pushes : r.solved ≡ true → stack_of stack' r.stacked ≡ push_all l (changed 0 cells answer') (stack_of stack count)
+-- the line whose cells these are has the answer answer', and the crossing lines of its changes are pushed
+pub record Pushes (bs : List Block) (l : LinePosition) (cells : List ℕ) (s : Stack) (answer' : List ℕ) (s' : Stack) : Type 0 where
+  pub tells : line_answer bs cells ≡ some answer'
+  pub pushes : lines_on s' ≡ push_all l (changed 0 cells answer') (lines_on s)
+
+-- the attempt tells whether the line has an answer
+abbrev pub Attempted : List Block → LinePosition → List ℕ → Stack → Bool → List ℕ → Stack → Type 0
+Attempted bs l cells s false answer' s' = line_answer bs cells ≡ none
+Attempted bs l cells s true answer' s' = Pushes bs l cells s answer' s'
 
 -- what is asked of a line of the grid and its blocks
-pub record Triable (w h : ℕ) (l : LinePosition) (b sizes colours memo column answer stack : List ℕ) (count : ℕ) : Type 0 where
+pub record Triable (w h : ℕ) (l : LinePosition) (b sizes colours memo column answer : List ℕ) (s : Stack) : Type 0 where
   pub grid : Grid w h b
   pub on : On w h l
   pub exact : length answer ≡ len w h l
@@ -36,37 +39,34 @@ pub record Triable (w h : ℕ) (l : LinePosition) (b sizes colours memo column a
   pub paired : length sizes ≡ length colours
   pub few : length sizes ≤ 64
   pub legal : illegal (blocks sizes colours) ≡ false
-  pub roomy : Roomy (len w h l) l stack count
+  pub roomy : Roomy (len w h l) l s
 
 -- before a line is taken up: it has left the stack, on which it and the other lines stand once
-pub record Ready (w h : ℕ) (c : Card) (l : LinePosition) (b report : List ℕ) (entries : ℕ) (memo column answer stack : List ℕ)
-    (count : ℕ) : Type 0 where
+pub record Ready (w h : ℕ) (c : Card) (l : LinePosition) (b : List ℕ) (r : Report) (memo column answer : List ℕ) (s : Stack) : Type 0 where
   pub grid : Grid w h b
   pub right : RightCard w h c
-  pub lines : Lines w h (l ∷ stack_of stack count)
+  pub lines : Lines w h (l ∷ lines_on s)
   pub exact : length answer ≡ len w h l
   pub copy : h ≤ length column
   pub memos : memo_size ≤ length memo
-  pub stacked : stack_size ≤ length stack
-  pub reports : entries + room b ≤ length report
+  pub stacked : stack_size ≤ length s.codes.now
+  pub reports : r.count + room b ≤ length r.cells.now
 
 -- the line was refused: nothing is stored
-pub record Refuses (w h : ℕ) (c : Card) (l : LinePosition) (b report b' report' : List ℕ) : Type 0 where
+pub record Refuses (w h : ℕ) (c : Card) (l : LinePosition) (b : List ℕ) (r : Report) (b' : List ℕ) (r' : Report) : Type 0 where
   pub refused : solve_straight w h (clue_of c) l (line_of w h b l) ≡ none
   pub board : b' ≡ b
-  pub reports : report' ≡ report
+  pub reports : r' ≡ r
 
 -- the line was solved: it is stored, its changes are reported and their crossing lines pushed
-pub record Moves (w h : ℕ) (c : Card) (l : LinePosition) (b report : List ℕ) (entries : ℕ) (stack : List ℕ) (count : ℕ) (b' report' : List ℕ)
-    (entries' : ℕ) (stack' : List ℕ) (count' : ℕ) : Type 0 where
+pub record Moves (w h : ℕ) (c : Card) (l : LinePosition) (b : List ℕ) (r : Report) (s : Stack) (b' : List ℕ) (r' : Report) (s' : Stack) : Type 0 where
   pub cells : List ℕ
   pub solved : solve_straight w h (clue_of c) l (line_of w h b l) ≡ some cells
   pub board : b' ≡ store w l cells b
-  pub stacks : stack_of stack' count' ≡ push_all l (changes w h l cells b) (stack_of stack count)
-  pub reports : Put report entries (news w h l cells b) entries' report'
+  pub stacks : lines_on s' ≡ push_all l (changes w h l cells b) (lines_on s)
+  pub reports : Reports r (news w h l cells b) r'
 
--- one or the other, as the step tells
-pub record Updated (w h : ℕ) (c : Card) (l : LinePosition) (b report : List ℕ) (entries : ℕ) (stack : List ℕ) (count : ℕ) (s : Step)
-    (b' report' stack' : List ℕ) : Type 0 where
-  pub no : s.solved ≡ false → Refuses w h c l b report b' report'
-  pub yes : s.solved ≡ true → Moves w h c l b report entries stack count b' report' s.entries stack' s.stacked
+-- one or the other, as is told: whether the line was solved
+abbrev pub Updated : ℕ → ℕ → Card → LinePosition → List ℕ → Report → Stack → Bool → List ℕ → Report → Stack → Type 0
+Updated w h c l b r s false b' r' s' = Refuses w h c l b r b' r'
+Updated w h c l b r s true b' r' s' = Moves w h c l b r s b' r' s'

@@ -1,421 +1,169 @@
-// Lists that a replayed call reads and writes: made, filled, read from a file of numbers, and compared with one.
-ghost use Rattle.std.specs.Prelude.{◌≡◌, length, IfOk, OnErr};
+// Lists that a replayed call reads and writes: made, filled, read from a file of numbers, and looked at again.
+ghost use Rattle.std.specs.Prelude.{◌≡◌, ◌≤◌, length, map, IfOk, OnErr};
 ghost use Rattle.vectors.specs.Counts.{IsPrefixLen};
-ghost use Rattle.vectors.specs.Fillers.{filler_at, Filled};
+ghost use Rattle.vectors.specs.Fillers.{Filled};
 
-use crate::reader::{Demanded, Reader, demand};
+use crate::entries::Entry;
+use crate::reader::Reader;
 use std::io;
 use std::io::Read;
-use std::num::wrapping_add_u64;
 
-// The largest entry of a list of 32-bit numbers.
-pub const MOST_ENTRY: u64 = 4294967295;
+// Room for a number for each cell of the largest grid, and 64 to spare.
+pub type Codes = [u32; 4160];
 
-// How many entries of a list were read.
+// Room for a number for each block of the longest line, and 16 to spare.
+pub type Sums = [u64; 80];
+
+// Room for the report of any run of the largest grid, and 64 to spare.
+pub type Report = [u32; 127040];
+
+// Room for the stack of any run, and 64 to spare.
+pub type Stack = [u32; 192];
+
+// Room for the memo of the longest line and 64 to spare, or for the text of the largest picture and 55 to spare.
+pub type Bytes = [u8; 4224];
+
+// A list that was filled and then lent to a call from `first` on. How it was filled goes by `turn`.
 #[derive(Clone, Copy)]
-pub struct Listed {
-    pub count: usize,
-    pub reader: Reader,
-}
-
-// How many entries of two lists were read.
-#[derive(Clone, Copy)]
-pub struct Pair {
+pub struct Lent<'a, T> {
+    pub turn: usize,
     pub first: usize,
-    pub second: usize,
-    pub reader: Reader,
+    pub list: &'a [T],
 }
 
-// How many cells, sizes and colours of a line were read.
+// A picture that was read.
 #[derive(Clone, Copy)]
-pub struct Line {
-    pub cells: usize,
-    pub sizes: usize,
-    pub colours: usize,
-    pub reader: Reader,
-}
-
-// A picture that was read, and how many codes it has.
-#[derive(Clone, Copy)]
-pub struct Picture {
+pub struct Picture<'a> {
     pub width: usize,
     pub height: usize,
     pub blank: u32,
-    pub codes: usize,
-    pub reader: Reader,
+    pub codes: &'a [u32],
 }
 
-// How many numbers of a case are not as the file says, up to where reading is.
-#[derive(Clone, Copy)]
-pub struct Found {
-    pub differing: u64,
-    pub reader: Reader,
-}
-
-// Room for a number for each cell of the largest grid, and 64 to spare.
-pub fn make() -> [u32; 4160]
-    ensures { 4160 ≡ length result }
+// Room for a list that is read.
+pub fn make<T: Entry, const N: usize>() -> [T; N]
+    ensures { N ≡ length result }
 {
-    [0; 4160]
+    [T::from_number(0); N]
 }
 
-// Room for a number for each block of the longest line, and 16 to spare.
-fn make_wide() -> [u64; 80]
-    ensures { 80 ≡ length result }
+fn fill<T: Entry>(turn: usize, list: &mut [T])
+    ensures { Filled (T.entry_at turn) (map T.value list.new) (length list.new) }
 {
-    [0; 80]
-}
-
-// Room for the report of any run of the largest grid, and 64 to spare.
-fn make_long() -> [u32; 127040]
-    ensures { 127040 ≡ length result }
-{
-    [0; 127040]
-}
-
-// Room for the stack of any run, and 64 to spare.
-fn make_stack() -> [u32; 192]
-    ensures { 192 ≡ length result }
-{
-    [0; 192]
-}
-
-// What a filled list holds at an index: a large number that differs from its neighbours.
-fn filler(index: usize) -> u32
-    ensures { result ≡ filler_at index }
-{
-    4000000000 - (index % 65536) as u32
-}
-
-pub fn widen(entry: u32) -> u64
-    ensures { result ≡ entry }
-{
-    entry as u64
-}
-
-fn fill(list: &mut [u32])
-    ensures { Filled filler_at list.new (length list.new) }
-{
-    let mut i = 0;
-    while i < list.len() {
-        list[i] = filler(i);
-        i += 1;
-    }
-}
-
-fn fill_wide(list: &mut [u64])
-    ensures { Filled filler_at list.new (length list.new) }
-{
-    let mut i = 0;
-    while i < list.len() {
-        list[i] = widen(filler(i));
-        i += 1;
+    for (index, entry) in list.iter_mut().enumerate() {
+        *entry = T::filler(turn, index);
     }
 }
 
 // A list as `make` makes it, filled.
-pub fn make_filled() -> [u32; 4160]
-    ensures { 4160 ≡ length result }
+pub fn make_filled<T: Entry, const N: usize>(turn: usize) -> [T; N]
+    ensures length { N ≡ length result }
+    ensures filled { Filled (T.entry_at turn) (map T.value result) N }
 {
     let mut list = make();
-    fill(&mut list);
+    fill(turn, &mut list);
     list
 }
 
-// A list as `make_wide` makes it, filled.
-pub fn make_filled_wide() -> [u64; 80]
-    ensures { 80 ≡ length result }
-{
-    let mut list = make_wide();
-    fill_wide(&mut list);
-    list
-}
-
-// A list as `make_long` makes it, filled.
-pub fn make_filled_long() -> [u32; 127040]
-    ensures { 127040 ≡ length result }
-{
-    let mut list = make_long();
-    fill(&mut list);
-    list
-}
-
-// Fills a list with what a call could take for its own numbers of lines: those below 256 in turn. The first of them goes by `turn`.
+// Fills a list with what a call could take for its own numbers of lines: those below 256 in turn. The first of them goes by `turn`. It is no
+// filler of an `Entry`: other lists of such entries are filled with what no call takes for its own.
 fn fill_low(turn: usize, list: &mut [u32]) {
-    let mut i = 0;
-    while i < list.len() {
-        list[i] = ((turn % 256 + i % 256) % 256) as u32;
-        i += 1;
+    for (index, entry) in list.iter_mut().enumerate() {
+        *entry = ((turn % 256 + index % 256) % 256) as u32;
     }
 }
 
-// A list as `make_stack` makes it, filled with low numbers.
-pub fn make_filled_stack(turn: usize) -> [u32; 192]
+// A stack, filled with low numbers.
+pub fn make_filled_stack(turn: usize) -> Stack
     ensures { 192 ≡ length result }
 {
-    let mut list = make_stack();
+    let mut list = [0; 192];
     fill_low(turn, &mut list);
     list
 }
 
 // `count`, or the list's length where that is less: so many entries can be lent.
-pub fn within(count: usize, list: &[u32]) -> usize
+pub fn within<T>(count: usize, list: &[T]) -> usize
     ensures { IsPrefixLen result list.now }
 {
-    if count < list.len() {
-        return count;
-    }
-    list.len()
+    count.min(list.len())
 }
 
-pub fn within_wide(count: usize, list: &[u64]) -> usize
-    ensures { IsPrefixLen result list.now }
+// The front of a list, with as many of `count` entries as it has.
+pub fn lend<T>(list: &mut [T], count: usize) -> &mut [T]
+    ensures { length result.now ≤ length list.old }
 {
-    if count < list.len() {
-        return count;
-    }
-    list.len()
+    let end = within(count, list);
+    &mut list[..end]
 }
 
-// How many entries at the front of a filled list hold all that was written to it since.
-pub(crate) fn written(list: &[u32]) -> usize
-    ensures { IsPrefixLen result list.now }
-{
-    let mut end = list.len();
-    while end > 0 {
-        if list[end - 1] != filler(end - 1) {
-            return end;
-        }
-        end -= 1;
-    }
-    end
-}
-
-pub(crate) fn written_wide(list: &[u64]) -> usize
-    ensures { IsPrefixLen result list.now }
-{
-    let mut end = list.len();
-    while end > 0 {
-        if list[end - 1] != widen(filler(end - 1)) {
-            return end;
-        }
-        end -= 1;
-    }
-    end
-}
-
-// Reads a count, and as many entries into the front of the list. A count that the list has no room for is a fault.
-pub fn read<R: Read>(
-    input: &mut R,
-    buffer: &mut [u8],
-    reader: Reader,
-    list: &mut [u32],
-) -> io::Result<Listed>
-    ensures ok { IfOk result (λ r. IsPrefixLen r.count list.new) }
-    ensures err { OnErr result (length list.new ≡ length list.old) }
-{
-    let counted = demand(input, buffer, reader, list.len() as u64)?;
-    let count = counted.value as usize;
-    let mut reader = counted.reader;
-    let mut i = 0;
-    while i < count {
-        let entry = demand(input, buffer, reader, MOST_ENTRY)?;
-        list[i] = entry.value as u32;
-        reader = entry.reader;
-        i += 1;
-    }
-    Ok(Listed { count, reader })
-}
-
-// Reads two lists, one after the other.
-pub fn read_pair<R: Read>(
-    input: &mut R,
-    buffer: &mut [u8],
-    reader: Reader,
-    first: &mut [u32],
-    second: &mut [u32],
-) -> io::Result<Pair>
-    ensures first { IfOk result (λ r. IsPrefixLen r.first first.new) }
-    ensures second { IfOk result (λ r. IsPrefixLen r.second second.new) }
-    ensures err { OnErr result ((length first.new ≡ length first.old) × (length second.new ≡ length second.old)) }
-{
-    let one = read(input, buffer, reader, first)?;
-    let reader = one.reader;
-    let two = read(input, buffer, reader, second)?;
-    let reader = two.reader;
-    Ok(Pair {
-        first: one.count,
-        second: two.count,
-        reader,
-    })
-}
-
-// Reads a line: its cells, and the sizes and colours of its blocks.
-pub fn read_line<R: Read>(
-    input: &mut R,
-    buffer: &mut [u8],
-    reader: Reader,
-    cells: &mut [u32],
-    sizes: &mut [u32],
-    colours: &mut [u32],
-) -> io::Result<Line>
-    ensures cells { IfOk result (λ r. IsPrefixLen r.cells cells.new) }
-    ensures sizes { IfOk result (λ r. IsPrefixLen r.sizes sizes.new) }
-    ensures colours { IfOk result (λ r. IsPrefixLen r.colours colours.new) }
-    ensures err { OnErr result ((length cells.new ≡ length cells.old) × (length sizes.new ≡ length sizes.old) × (length colours.new ≡ length colours.old)) }
-{
-    let listed = read(input, buffer, reader, cells)?;
-    let reader = listed.reader;
-    let pair = read_pair(input, buffer, reader, sizes, colours)?;
-    let reader = pair.reader;
-    Ok(Line {
-        cells: listed.count,
-        sizes: pair.first,
-        colours: pair.second,
-        reader,
-    })
-}
-
-// Reads a picture: its sides, the blank code, and the codes.
-pub fn read_picture<R: Read>(
-    input: &mut R,
-    buffer: &mut [u8],
-    reader: Reader,
-    codes: &mut [u32],
-) -> io::Result<Picture>
-    ensures ok { IfOk result (λ r. IsPrefixLen r.codes codes.new) }
-    ensures err { OnErr result (length codes.new ≡ length codes.old) }
-{
-    let width = demand(input, buffer, reader, u64::MAX)?;
-    let reader = width.reader;
-    let height = demand(input, buffer, reader, u64::MAX)?;
-    let reader = height.reader;
-    let blank = demand(input, buffer, reader, MOST_ENTRY)?;
-    let reader = blank.reader;
-    let list = read(input, buffer, reader, codes)?;
-    let reader = list.reader;
-    Ok(Picture {
-        width: width.value as usize,
-        height: height.value as usize,
-        blank: blank.value as u32,
-        codes: list.count,
-        reader,
-    })
-}
-
-// What a list with `count` entries from `first` on should hold at an index: the next number of the file, and elsewhere what it was filled
-// with.
-pub(crate) fn expect<R: Read>(
-    input: &mut R,
-    buffer: &mut [u8],
-    reader: Reader,
-    first: usize,
-    index: usize,
-    count: usize,
-    filler: u64,
-) -> io::Result<Demanded> {
-    if index >= first {
-        if index - first < count {
-            return demand(input, buffer, reader, u64::MAX);
+impl<'a, T: Entry> Lent<'a, T> {
+    // A list that was lent whole, filled at turn 0.
+    pub fn whole(list: &'a [T]) -> Lent<'a, T>
+        ensures list { result.list.now ≡ list.now }
+        ensures whole { (result.turn ≡ 0) × (result.first ≡ 0) }
+    {
+        Lent {
+            turn: 0,
+            first: 0,
+            list,
         }
     }
-    Ok(Demanded {
-        value: filler,
-        reader,
-    })
-}
 
-// One number more that a call gave, and the number that the file says.
-pub(crate) fn add_number(found: Found, given: u64, expected: Demanded) -> Found {
-    let reader = expected.reader;
-    if given == expected.value {
-        return Found {
-            differing: found.differing,
-            reader,
-        };
+    // What the list was filled with at an index.
+    pub(crate) fn filler(&self, index: usize) -> u64
+        ensures { result ≡ T.entry_at self.now.turn index }
+    {
+        T::filler(self.turn, index).number()
     }
-    Found {
-        differing: wrapping_add_u64(found.differing, 1),
-        reader,
+
+    // How many entries at the front of the list hold all that was written to it since.
+    pub(crate) fn written(&self) -> usize
+        ensures { IsPrefixLen result self.now.list.now }
+    {
+        self.list
+            .iter()
+            .enumerate()
+            .rposition(|(index, entry)| entry.number() != self.filler(index))
+            .map_or(0, |last| last + 1)
     }
 }
 
-// Compares a number that a call gave with the next one of the file.
-pub fn compare_number<R: Read>(
-    input: &mut R,
-    buffer: &mut [u8],
-    found: Found,
-    given: u64,
-) -> io::Result<Found> {
-    let reader = found.reader;
-    Ok(add_number(found, given, demand(input, buffer, reader, u64::MAX)?))
-}
-
-// Compares a list that was filled, and lent to a call from `first` on, with the list that comes next in the file: its entries, and the
-// filler before and after them.
-pub fn compare_from<R: Read>(
-    input: &mut R,
-    buffer: &mut [u8],
-    found: Found,
-    first: usize,
-    list: &[u32],
-) -> io::Result<Found> {
-    let reader = found.reader;
-    let counted = demand(input, buffer, reader, list.len() as u64)?;
-    let count = counted.value as usize;
-    let after = counted.reader;
-    let mut found = Found {
-        differing: found.differing,
-        reader: after,
-    };
-    let mut i = 0;
-    while i < list.len() {
-        let at = i;
-        i += 1;
-        let reader = found.reader;
-        found = add_number(
-            found,
-            widen(list[at]),
-            expect(input, buffer, reader, first, at, count, widen(filler(at)))?,
-        );
+impl<R: Read> Reader<R> {
+    // The next number, which has to be an entry: else a fault, and 0.
+    fn entry<T: Entry>(&mut self) -> io::Result<T> {
+        Ok(T::from_number(self.demand(T::MOST)?))
     }
-    Ok(found)
-}
 
-// The same of a list that was lent whole.
-pub fn compare<R: Read>(
-    input: &mut R,
-    buffer: &mut [u8],
-    found: Found,
-    list: &[u32],
-) -> io::Result<Found> {
-    compare_from(input, buffer, found, 0, list)
-}
-
-pub fn compare_wide<R: Read>(
-    input: &mut R,
-    buffer: &mut [u8],
-    found: Found,
-    list: &[u64],
-) -> io::Result<Found> {
-    let reader = found.reader;
-    let counted = demand(input, buffer, reader, list.len() as u64)?;
-    let count = counted.value as usize;
-    let after = counted.reader;
-    let mut found = Found {
-        differing: found.differing,
-        reader: after,
-    };
-    let mut i = 0;
-    while i < list.len() {
-        let at = i;
-        i += 1;
-        let reader = found.reader;
-        found = add_number(
-            found,
-            list[at],
-            expect(input, buffer, reader, 0, at, count, widen(filler(at)))?,
-        );
+    // Reads a count, and as many entries into the front of the list. A count that the list has no room for is a fault.
+    pub fn read_list<T: Entry>(&mut self, list: &mut [T]) -> io::Result<usize>
+        ensures ok { IfOk result (λ count. IsPrefixLen count list.new) }
+        ensures err { OnErr result (length list.new ≡ length list.old) }
+    {
+        let count = self.demand(list.len() as u64)? as usize;
+        for entry in &mut list[..count] {
+            *entry = self.entry()?;
+        }
+        Ok(count)
     }
-    Ok(found)
+
+    // Reads a list into the front of the room for it.
+    pub fn read_into<'a, T: Entry>(&mut self, room: &'a mut [T]) -> io::Result<&'a [T]>
+        ensures { IfOk result (λ list. length list.now ≤ length room.old) }
+    {
+        let count = self.read_list(room)?;
+        Ok(&room[..count])
+    }
+
+    // Reads a picture: its sides, the blank code, and the codes.
+    pub fn read_picture<'a>(&mut self, room: &'a mut [u32]) -> io::Result<Picture<'a>>
+        ensures { IfOk result (λ picture. length picture.codes.now ≤ length room.old) }
+    {
+        Ok(Picture {
+            width: self.demand_size()?,
+            height: self.demand_size()?,
+            blank: self.entry()?,
+            codes: self.read_into(room)?,
+        })
+    }
 }

@@ -1,269 +1,167 @@
-// Reads a file of numbers from a reader, as standard input, in pieces as large as the buffer that the caller lends.
+// Reads a file of numbers from a reader, as standard input, a piece at a time.
 //
 // Such a file is decimal numbers below 2^64, separated by blanks, tabs and line ends; `#` starts a comment to the end of its line.
-ghost use Rattle.std.specs.Prelude.{◌≡◌, ◌≤◌, true, length, IfOk, OnErr};
+ghost use Rattle.std.specs.Prelude.{◌≡◌, ◌≤◌, true, false, IfOk};
 
 use std::io;
 use std::io::Read;
+use std::ops::Range;
 
-// How far reading is: the bytes of the buffer from `at` to `filled` are still to be used. A fault stays.
-#[derive(Clone, Copy)]
-pub struct Reader {
-    at: usize,
-    filled: usize,
-    pub faulty: bool,
-}
+// Where a file has no next number though it has not ended.
+#[derive(Debug, Drop)]
+pub enum ReadError {
+    // The input gives an error.
+    Input(io::Error),
 
-// What comes next in the file. A fault is a strange byte or a number that is too large.
-#[derive(Clone, Copy)]
-pub enum Word {
-    Number(u64),
-    End,
-    Fault,
-}
-
-#[derive(Clone, Copy)]
-pub struct Next {
-    pub word: Word,
-    pub reader: Reader,
-}
-
-// A number that had to come next; 0 after a fault.
-#[derive(Clone, Copy)]
-pub struct Demanded {
-    pub value: u64,
-    pub reader: Reader,
-}
-
-// What the next byte means.
-#[derive(Clone, Copy)]
-enum Kind {
-    Digit(u64),
-    Blank,
-    LineEnd,
-    Comment,
-    Strange,
-    End,
-}
-
-#[derive(Clone, Copy)]
-struct Seen {
-    kind: Kind,
-    reader: Reader,
-}
-
-// What the next byte makes of the number before it.
-#[derive(Clone, Copy)]
-enum Step {
-    Longer(u64),
-    Whole,
+    // A strange byte or a number that is too large comes next, or came before.
     Broken,
+}
+
+impl From<io::Error> for ReadError {
+    fn from(error: io::Error) -> ReadError {
+        ReadError::Input(error)
+    }
+}
+
+// A file that is read: the piece of it that was read last, which of its bytes are still to be used, and whether a fault was found, which stays
+// as a flag, since the numbers after it are still told as 0.
+// The piece is an array, since a `BufReader` needs a heap, and the programs that read files have none.
+#[derive(Drop)]
+pub struct Reader<R> {
+    input: R,
+    piece: [u8; 65536],
+    unread: Range<usize>,
+    faulty: bool,
 }
 
 // The most digits of a number below 2^64.
 const MOST_DIGITS: u64 = 20;
 
-// The start of the input.
-pub fn open() -> Reader {
-    Reader {
-        at: 0,
-        filled: 0,
-        faulty: false,
-    }
-}
-
-// The same place, with a fault.
-pub fn fail(reader: Reader) -> Reader
-    ensures { result.faulty ≡ true }
-{
-    Reader {
-        at: reader.at,
-        filled: reader.filled,
-        faulty: true,
-    }
-}
-
-fn kind_of(byte: u8) -> Kind {
-    match byte {
-        b'0'..=b'9' => Kind::Digit((byte - b'0') as u64),
-        b' ' | b'\t' | b'\r' => Kind::Blank,
-        b'\n' => Kind::LineEnd,
-        b'#' => Kind::Comment,
-        _ => Kind::Strange,
-    }
-}
-
-// Looks at the next byte, and reads a piece more where the buffer is used up.
-fn see<R: Read>(input: &mut R, buffer: &mut [u8], reader: Reader) -> io::Result<Seen> {
-    let at = reader.at;
-    if at < reader.filled {
-        if at < buffer.len() {
-            return Ok(Seen {
-                kind: kind_of(buffer[at]),
-                reader,
-            });
+impl<R: Read> Reader<R> {
+    // The start of a file.
+    pub fn new(input: R) -> Reader<R>
+        ensures { result.faulty ≡ false }
+    {
+        Reader {
+            input,
+            piece: [0; 65536],
+            unread: 0..0,
+            faulty: false,
         }
     }
-    let filled = input.read(buffer)?;
-    let faulty = reader.faulty;
-    let reader = Reader {
-        at: 0,
-        filled,
-        faulty,
-    };
-    if filled == 0 {
-        return Ok(Seen {
-            kind: Kind::End,
-            reader,
-        });
-    }
-    Ok(Seen {
-        kind: kind_of(buffer[0]),
-        reader,
-    })
-}
 
-// The place after the byte just seen.
-fn pass(reader: Reader) -> Reader {
-    if reader.at < reader.filled {
-        return Reader {
-            at: reader.at + 1,
-            filled: reader.filled,
-            faulty: reader.faulty,
-        };
+    // Whether the file has a fault so far.
+    pub fn is_faulty(&self) -> bool
+        ensures { result ≡ self.now.faulty }
+    {
+        self.faulty
     }
-    reader
-}
 
-// Whether the byte belongs to a comment, or ends one that is under way.
-fn is_comment(kind: Kind, under_way: bool) -> bool {
-    match kind {
-        Kind::Comment => true,
-        Kind::LineEnd => false,
-        Kind::End => false,
-        _ => under_way,
+    // Calls the file faulty.
+    pub fn fail(&mut self)
+        ensures { self.new.faulty ≡ true }
+    {
+        self.faulty = true;
     }
-}
 
-fn is_space(kind: Kind) -> bool {
-    match kind {
-        Kind::Blank => true,
-        Kind::LineEnd => true,
-        _ => false,
+    // The next byte, which stays the next one; none at the end of the input.
+    fn peek(&mut self) -> io::Result<Option<u8>> {
+        if self.unread.is_empty() {
+            self.unread = 0..self.input.read(&mut self.piece)?;
+        }
+        if self.unread.is_empty() {
+            return Ok(None);
+        }
+        Ok(self.piece.get(self.unread.start).copied())
     }
-}
 
-// Goes past blanks and comments. The count of turns only shows that the loop ends, since nothing says that an input does.
-fn skip_space<R: Read>(input: &mut R, buffer: &mut [u8], reader: Reader) -> io::Result<Seen> {
-    let mut seen = see(input, buffer, reader)?;
-    let mut comment = false;
-    let mut turns = u64::MAX;
-    while turns > 0 {
-        turns -= 1;
-        let kind = seen.kind;
-        comment = is_comment(kind, comment);
-        if !comment {
-            if !is_space(kind) {
-                return Ok(seen);
+    // Goes past the next byte.
+    fn pass(&mut self) {
+        self.unread.next();
+    }
+
+    // Goes past blanks and comments to the byte that is next. The count of turns only shows that the loop ends, since nothing says that an
+    // input does.
+    fn skip_space(&mut self) -> io::Result<Option<u8>> {
+        let mut comment = false;
+        for _ in 0..u64::MAX {
+            match self.peek()? {
+                Some(b' ' | b'\t' | b'\r') => {}
+                Some(b'\n') => comment = false,
+                Some(b'#') => comment = true,
+                Some(_) if comment => {}
+                next => return Ok(next),
+            }
+            self.pass();
+        }
+        Ok(None)
+    }
+
+    // Reads a number whose first digit is next.
+    fn read_digits(&mut self) -> Result<u64, ReadError> {
+        let mut value = 0u64;
+        for _ in 0..=MOST_DIGITS {
+            match self.peek()? {
+                Some(byte @ b'0'..=b'9') => value = lengthen(value, byte - b'0')?,
+                None | Some(b' ' | b'\t' | b'\r' | b'\n' | b'#') => return Ok(value),
+                Some(_) => return Err(ReadError::Broken),
+            }
+            self.pass();
+        }
+        Err(ReadError::Broken)
+    }
+
+    // Reads a number, or finds the end of the file.
+    fn try_number(&mut self) -> Result<Option<u64>, ReadError> {
+        match self.skip_space()? {
+            None => Ok(None),
+            Some(b'0'..=b'9') => Ok(Some(self.read_digits()?)),
+            Some(_) => Err(ReadError::Broken),
+        }
+    }
+
+    // The next number of the file; none at its end. Once it is broken it stays so.
+    pub fn read_number(&mut self) -> Result<Option<u64>, ReadError>
+        ensures stays { self.old.faulty ≡ true → result ≡ Err ReadError.Broken }
+        ensures broken { result ≡ Err ReadError.Broken → self.new.faulty ≡ true }
+    {
+        if self.faulty {
+            return Err(ReadError::Broken);
+        }
+        let answer = self.try_number();
+        if let Err(ReadError::Broken) = answer {
+            self.faulty = true;
+        }
+        answer
+    }
+
+    // The next number, which has to be there and be at most `most`: else a fault, and 0.
+    pub fn demand(&mut self, most: u64) -> io::Result<u64>
+        ensures bound { IfOk result (λ value. value ≤ most) }
+        ensures faulty { self.old.faulty ≡ true → result ≡ Ok 0 }
+    {
+        match self.read_number() {
+            Ok(Some(value)) if value <= most => Ok(value),
+            Err(ReadError::Input(error)) => Err(error),
+            _ => {
+                self.fail();
+                Ok(0)
             }
         }
-        seen = see(input, buffer, pass(seen.reader))?;
     }
-    Ok(seen)
+
+    // The next number, which has to be there: else a fault, and 0.
+    pub fn demand_size(&mut self) -> io::Result<usize>
+        ensures { self.old.faulty ≡ true → result ≡ Ok 0 }
+    {
+        Ok(self.demand(u64::MAX)? as usize)
+    }
 }
 
 // The number with one digit more, if it is below 2^64.
-fn lengthen(value: u64, digit: u64) -> Step {
-    if digit > 9 {
-        return Step::Broken;
-    }
-    if value > (u64::MAX - digit) / 10 {
-        return Step::Broken;
-    }
-    Step::Longer(value * 10 + digit)
-}
-
-fn step_on(value: u64, kind: Kind) -> Step {
-    match kind {
-        Kind::Digit(digit) => lengthen(value, digit),
-        Kind::Strange => Step::Broken,
-        _ => Step::Whole,
-    }
-}
-
-fn answer_fault(reader: Reader) -> Next {
-    Next {
-        word: Word::Fault,
-        reader: fail(reader),
-    }
-}
-
-// Reads a number whose first digit is next.
-fn read_digits<R: Read>(input: &mut R, buffer: &mut [u8], first: Reader) -> io::Result<Next> {
-    let mut reader = first;
-    let mut value = 0;
-    let mut digits = 0;
-    while digits <= MOST_DIGITS {
-        digits += 1;
-        let seen = see(input, buffer, reader)?;
-        let kind = seen.kind;
-        reader = seen.reader;
-        let step = step_on(value, kind);
-        match step {
-            Step::Longer(longer) => {
-                value = longer;
-                reader = pass(reader);
-            }
-            Step::Whole => {
-                return Ok(Next {
-                    word: Word::Number(value),
-                    reader,
-                });
-            }
-            Step::Broken => return Ok(answer_fault(reader)),
-        }
-    }
-    Ok(answer_fault(reader))
-}
-
-// The next number of the file, or its end. After a fault every answer is a fault.
-pub fn read_word<R: Read>(input: &mut R, buffer: &mut [u8], reader: Reader) -> io::Result<Next> {
-    if reader.faulty {
-        return Ok(answer_fault(reader));
-    }
-    let seen = skip_space(input, buffer, reader)?;
-    let kind = seen.kind;
-    let reader = seen.reader;
-    match kind {
-        Kind::Digit(_) => read_digits(input, buffer, reader),
-        Kind::End => Ok(Next {
-            word: Word::End,
-            reader,
-        }),
-        _ => Ok(answer_fault(reader)),
-    }
-}
-
-// The next number, which has to be there and be at most `most`: else a fault.
-pub fn demand<R: Read>(
-    input: &mut R,
-    buffer: &mut [u8],
-    reader: Reader,
-    most: u64,
-) -> io::Result<Demanded>
-    ensures ok { IfOk result (λ r. r.value ≤ most) }
-    ensures err { OnErr result (length buffer.new ≡ length buffer.old) }
-{
-    let next = read_word(input, buffer, reader)?;
-    let word = next.word;
-    let reader = next.reader;
-    if let Word::Number(value) = word {
-        if value <= most {
-            return Ok(Demanded { value, reader });
-        }
-    }
-    Ok(Demanded {
-        value: 0,
-        reader: fail(reader),
-    })
+fn lengthen(value: u64, digit: u8) -> Result<u64, ReadError> {
+    value
+        .checked_mul(10)
+        .and_then(|tens| tens.checked_add(u64::from(digit)))
+        .ok_or(ReadError::Broken)
 }

@@ -1,85 +1,94 @@
-// Counts the cases of a replay, by the numbers of the calls, and tells the outcome on standard output.
-use std::io;
-use std::num::wrapping_add_u64;
+// Counts the cases of a replay, by the numbers of the calls.
+ghost use Rattle.std.specs.Prelude.{◌≡◌, ℕ, ◌<◌, ◌≢◌, fold};
+ghost use Rattle.vectors.specs.Tallies.{no_tally, tally_of, one_more, plus};
 
-pub fn write_text(rt: &impl Print, text: &[u8]) -> io::Result<()> {
-    rt.write_all(text)
+use std::fmt;
+
+// How many cases were replayed, and how many of them differ.
+#[derive(Clone, Copy, Debug, PartialEq, Eq)]
+pub struct Tally {
+    pub cases: u64,
+    pub differing: u64,
 }
 
-// A blank and a number.
-pub fn write_number(rt: &impl Print, number: u64) -> io::Result<()> {
-    write_text(rt, b" ")?;
-    rt.print(number)
-}
+impl Tally {
+    // The tally of no case.
+    const NONE: Tally = Tally {
+        cases: 0,
+        differing: 0,
+    };
 
-// Counts one case more of a call.
-pub fn count(counts: &mut [u64], call: u64) {
-    let at = call as usize;
-    if at < counts.len() {
-        counts[at] = wrapping_add_u64(counts[at], 1);
+    // The tally after one case more.
+    fn one_more(self, differs: bool) -> Tally
+        ensures { result ≡ one_more self differs }
+    {
+        Tally {
+            cases: self.cases.wrapping_add(1),
+            differing: self.differing.wrapping_add(u64::from(differs)),
+        }
+    }
+
+    // Both tallies together.
+    fn plus(self, more: Tally) -> Tally
+        ensures { result ≡ plus self more }
+    {
+        Tally {
+            cases: self.cases.wrapping_add(more.cases),
+            differing: self.differing.wrapping_add(more.differing),
+        }
     }
 }
 
-// How many cases of a call were counted.
-fn counted(counts: &[u64], call: usize) -> u64 {
-    if call < counts.len() {
-        return counts[call];
+impl fmt::Display for Tally {
+    fn fmt<W: fmt::Write>(&self, f: &mut fmt::Formatter<W>) -> fmt::Result {
+        let cases = self.cases;
+        let differing = self.differing;
+        write!(f, "{cases} cases, {differing} differ")
     }
-    0
 }
 
-fn sum(counts: &[u64]) -> u64 {
-    let mut total = 0;
-    let mut i = 0;
-    while i < counts.len() {
-        total = wrapping_add_u64(total, counts[i]);
-        i += 1;
+// The tally of each call, by its number from 0 to 21.
+#[derive(Clone, Copy)]
+pub struct Tallies {
+    calls: [Tally; 22],
+}
+
+impl Tallies {
+    pub fn new() -> Tallies
+        ensures { (call : ℕ) → tally_of result call ≡ no_tally }
+    {
+        Tallies {
+            calls: [Tally::NONE; 22],
+        }
     }
-    total
-}
 
-// The number of a case that differs, and how many of its numbers do. Cases are numbered from 1 as they stand in the file.
-pub fn write_difference(rt: &impl Print, case: u64, call: u64, differing: u64) -> io::Result<()> {
-    write_text(rt, b"case")?;
-    write_number(rt, case)?;
-    write_text(rt, b" of call")?;
-    write_number(rt, call)?;
-    write_text(rt, b" differs in")?;
-    write_number(rt, differing)?;
-    write_text(rt, b" numbers\n")
-}
+    // Counts one case more of a call.
+    pub fn count(&mut self, call: u64, differs: bool)
+        ensures counted { call < 22 → tally_of self.new call ≡ one_more (tally_of self.old call) differs }
+        ensures others { (other : ℕ) → other ≢ call → tally_of self.new other ≡ tally_of self.old other }
+    {
+        let at = call as usize;
+        if at < self.calls.len() {
+            self.calls[at] = self.calls[at].one_more(differs);
+        }
+    }
 
-fn write_tally(rt: &impl Print, name: &[u8], cases: u64, differing: u64) -> io::Result<()> {
-    write_text(rt, name)?;
-    write_text(rt, b":")?;
-    write_number(rt, cases)?;
-    write_text(rt, b" cases,")?;
-    write_number(rt, differing)?;
-    write_text(rt, b" differ\n")
-}
+    // The tally of a call; none for a number that no call has.
+    pub fn of(&self, call: u64) -> Tally
+        ensures { result ≡ tally_of self.now call }
+    {
+        self.calls
+            .get(call as usize)
+            .copied()
+            .unwrap_or(Tally::NONE)
+    }
 
-// How many cases of a call were replayed, and how many of them differ.
-pub fn write_call(
-    rt: &impl Print,
-    name: &[u8],
-    call: usize,
-    cases: &[u64],
-    differing: &[u64],
-) -> io::Result<()> {
-    write_tally(rt, name, counted(cases, call), counted(differing, call))
-}
-
-// The same of all calls, and whether the whole input was read.
-pub fn write_end(
-    rt: &impl Print,
-    cases: &[u64],
-    differing: &[u64],
-    faulty: bool,
-) -> io::Result<()> {
-    write_tally(rt, b"all calls", sum(cases), sum(differing))?;
-    if faulty {
-        write_text(rt, b"the input is broken: it was not read to its end\n")
-    } else {
-        write_text(rt, b"the input was read to its end\n")
+    // The tally of all calls.
+    pub fn total(&self) -> Tally
+        ensures { result ≡ fold plus no_tally self.now.calls }
+    {
+        self.calls
+            .iter()
+            .fold(Tally::NONE, |total, tally| total.plus(*tally))
     }
 }

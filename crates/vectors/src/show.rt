@@ -1,162 +1,152 @@
-// Writes lists so that a person can read them: what a call is given, and what it leaves.
-ghost use Rattle.std.specs.Prelude.{◌<◌, ◌≤◌, length};
+// Shows lists so that a person can read them: what a call is given, and what it leaves.
+use crate::entries::Entry;
+use crate::lists::Lent;
+use std::fmt;
 
-use crate::bytes;
-use crate::lists::{widen, written, written_wide};
-use crate::report::{write_number, write_text};
-use std::io;
-use std::num::wrapping_add_u64;
-
-// The most entries of a report that are written one by one.
+// The most entries of a report that are shown one by one.
 const MOST_SHOWN: usize = 64;
 
-// The sum of a list's entries, and the sum of all sums up to an entry: together they tell the order too.
+// The entries of a list: each run of equal ones as the entry, and how often it stands there if more than once.
 #[derive(Clone, Copy)]
-struct Sums {
-    plain: u64,
-    running: u64,
-}
+pub struct Runs<'a>(pub &'a [u32]);
 
-// Where the run of equal entries that begins at `from` ends.
-fn end_run(list: &[u32], from: usize) -> usize
-    requires { from < length list.now }
-    ensures { (from < result) × (result ≤ length list.now) }
-{
-    let mut end = from + 1;
-    while end < list.len() {
-        if list[end] != list[from] {
-            return end;
+impl fmt::Display for Runs<'_> {
+    fn fmt<W: fmt::Write>(&self, f: &mut fmt::Formatter<W>) -> fmt::Result {
+        for run in self.0.chunk_by(|a, b| a == b) {
+            let entry = run[0];
+            write!(f, " {entry}")?;
+            let times = run.len();
+            if times > 1 {
+                write!(f, "*{times}")?;
+            }
         }
-        end += 1;
+        Ok(())
     }
-    end
 }
 
-// An entry, and how often it stands there if more than once.
-fn write_run(rt: &impl Print, entry: u32, times: usize) -> io::Result<()> {
-    write_number(rt, widen(entry))?;
-    if times > 1 {
-        write_text(rt, b"*")?;
-        rt.print(times)?;
+// The entries of a list, one by one.
+#[derive(Clone, Copy)]
+struct Each<'a>(&'a [u64]);
+
+impl fmt::Display for Each<'_> {
+    fn fmt<W: fmt::Write>(&self, f: &mut fmt::Formatter<W>) -> fmt::Result {
+        for entry in self.0 {
+            write!(f, " {entry}")?;
+        }
+        Ok(())
     }
-    Ok(())
 }
 
-// A name and the entries of a list.
-pub fn write_list(rt: &impl Print, name: &[u8], list: &[u32]) -> io::Result<()> {
-    write_text(rt, name)?;
-    let mut i = 0;
-    while i < list.len() {
-        let from = i;
-        i = end_run(list, from);
-        write_run(rt, list[from], i - from)?;
+// How many entries a list has, their sum, and the sum of all sums up to an entry: together they tell the order too.
+#[derive(Clone, Copy)]
+struct Sums<'a>(&'a [u32]);
+
+impl fmt::Display for Sums<'_> {
+    fn fmt<W: fmt::Write>(&self, f: &mut fmt::Formatter<W>) -> fmt::Result {
+        let mut plain = 0u64;
+        let mut running = 0u64;
+        for entry in self.0 {
+            plain = plain.wrapping_add(u64::from(*entry));
+            running = running.wrapping_add(plain);
+        }
+        let entries = self.0.len();
+        write!(f, " {entries} entries, sums {plain} {running}")
     }
-    Ok(())
 }
 
-fn write_wide(rt: &impl Print, name: &[u8], list: &[u64]) -> io::Result<()> {
-    write_text(rt, name)?;
-    let mut i = 0;
-    while i < list.len() {
-        write_number(rt, list[i])?;
-        i += 1;
+// A text in quotes: each byte itself where it can be printed, else its number between angle brackets, and so the sign `<`.
+#[derive(Clone, Copy)]
+pub struct Quoted<'a>(pub &'a [u8]);
+
+impl fmt::Display for Quoted<'_> {
+    fn fmt<W: fmt::Write>(&self, f: &mut fmt::Formatter<W>) -> fmt::Result {
+        write!(f, " \"")?;
+        for byte in self.0 {
+            match *byte {
+                b' '..=b';' | b'='..=b'~' => f.write_char(char::from(*byte))?,
+                _ => write!(f, "<{byte}>")?,
+            }
+        }
+        write!(f, "\"")
     }
-    Ok(())
 }
 
-fn write_kept(rt: &impl Print, count: usize) -> io::Result<()> {
-    if count > 0 {
-        write_text(rt, b" (")?;
-        rt.print(count)?;
-        write_text(rt, b" kept)")?;
-    }
-    Ok(())
-}
+// How many entries are as they were; nothing where none is.
+#[derive(Clone, Copy)]
+struct Kept(usize);
 
-// A name, what was written to a filled list, and how many entries after it are as they were.
-pub fn write_left(rt: &impl Print, name: &[u8], list: &[u32]) -> io::Result<()> {
-    let end = written(list);
-    write_list(rt, name, &list[..end])?;
-    write_kept(rt, list.len() - end)
-}
-
-fn sum_up(list: &[u32]) -> Sums {
-    let mut plain = 0;
-    let mut running = 0;
-    let mut i = 0;
-    while i < list.len() {
-        plain = wrapping_add_u64(plain, widen(list[i]));
-        running = wrapping_add_u64(running, plain);
-        i += 1;
-    }
-    Sums { plain, running }
-}
-
-// A name, how many entries a list has, and their sums.
-fn write_sums(rt: &impl Print, name: &[u8], list: &[u32]) -> io::Result<()> {
-    let sums = sum_up(list);
-    write_text(rt, name)?;
-    write_number(rt, list.len() as u64)?;
-    write_text(rt, b" entries, sums")?;
-    write_number(rt, sums.plain)?;
-    write_number(rt, sums.running)
-}
-
-// The same as `write_left`, of a list that may be long: then its sums are written.
-pub fn write_left_long(rt: &impl Print, name: &[u8], list: &[u32]) -> io::Result<()> {
-    let end = written(list);
-    if end > MOST_SHOWN {
-        write_sums(rt, name, &list[..end])?;
-    } else {
-        write_list(rt, name, &list[..end])?;
-    }
-    write_kept(rt, list.len() - end)
-}
-
-pub fn write_left_wide(rt: &impl Print, name: &[u8], list: &[u64]) -> io::Result<()> {
-    let end = written_wide(list);
-    write_wide(rt, name, &list[..end])?;
-    write_kept(rt, list.len() - end)
-}
-
-// A byte of a text: itself where it can be printed, else its number between angle brackets, and so the sign `<`.
-fn write_byte(rt: &impl Print, byte: u8) -> io::Result<()> {
-    match byte {
-        b' '..=b';' | b'='..=b'~' => write_text(rt, &[byte]),
-        _ => {
-            write_text(rt, b"<")?;
-            rt.print(byte)?;
-            write_text(rt, b">")
+impl fmt::Display for Kept {
+    fn fmt<W: fmt::Write>(&self, f: &mut fmt::Formatter<W>) -> fmt::Result {
+        match self.0 {
+            0 => Ok(()),
+            count => write!(f, " ({count} kept)"),
         }
     }
 }
 
-fn write_bytes(rt: &impl Print, text: &[u8]) -> io::Result<()> {
-    let mut i = 0;
-    while i < text.len() {
-        write_byte(rt, text[i])?;
-        i += 1;
+// What was written to a filled list, and how many entries after it are as they were.
+#[derive(Clone, Copy)]
+pub struct Left<'a, T>(pub Lent<'a, T>);
+
+impl<'a, T: Entry> Left<'a, T> {
+    // The entries that hold all that was written.
+    fn written(&self) -> &'a [T] {
+        &self.0.list[..self.0.written()]
     }
-    Ok(())
+
+    fn kept(&self) -> Kept {
+        Kept(self.0.list.len() - self.0.written())
+    }
 }
 
-// A name and a text in quotes.
-pub fn write_quoted(rt: &impl Print, name: &[u8], text: &[u8]) -> io::Result<()> {
-    write_text(rt, name)?;
-    write_text(rt, b" \"")?;
-    write_bytes(rt, text)?;
-    write_text(rt, b"\"")
+impl fmt::Display for Left<'_, u32> {
+    fn fmt<W: fmt::Write>(&self, f: &mut fmt::Formatter<W>) -> fmt::Result {
+        let runs = Runs(self.written());
+        let kept = self.kept();
+        write!(f, "{runs}{kept}")
+    }
 }
 
-// A name, the text that was written to a filled list, and how many bytes after it are as they were.
-pub fn write_left_text(rt: &impl Print, name: &[u8], turn: usize, list: &[u8]) -> io::Result<()> {
-    let end = bytes::written(turn, list);
-    write_quoted(rt, name, &list[..end])?;
-    write_kept(rt, list.len() - end)
+impl fmt::Display for Left<'_, u64> {
+    fn fmt<W: fmt::Write>(&self, f: &mut fmt::Formatter<W>) -> fmt::Result {
+        let entries = Each(self.written());
+        let kept = self.kept();
+        write!(f, "{entries}{kept}")
+    }
 }
 
-// A name, and how many bytes of a filled list are as they were after the last that is not.
-pub fn write_left_bytes(rt: &impl Print, name: &[u8], turn: usize, list: &[u8]) -> io::Result<()> {
-    write_text(rt, name)?;
-    write_kept(rt, list.len() - bytes::written(turn, list))
+impl fmt::Display for Left<'_, u8> {
+    fn fmt<W: fmt::Write>(&self, f: &mut fmt::Formatter<W>) -> fmt::Result {
+        let text = Quoted(self.written());
+        let kept = self.kept();
+        write!(f, "{text}{kept}")
+    }
+}
+
+// The same of a list that may be long: then its sums are shown.
+#[derive(Clone, Copy)]
+pub struct LeftLong<'a>(pub Lent<'a, u32>);
+
+impl fmt::Display for LeftLong<'_> {
+    fn fmt<W: fmt::Write>(&self, f: &mut fmt::Formatter<W>) -> fmt::Result {
+        let left = Left(self.0);
+        let written = left.written();
+        if written.len() <= MOST_SHOWN {
+            return write!(f, "{left}");
+        }
+        let sums = Sums(written);
+        let kept = left.kept();
+        write!(f, "{sums}{kept}")
+    }
+}
+
+// How many entries of a filled list are as they were after the last that is not.
+#[derive(Clone, Copy)]
+pub struct Untouched<'a, T>(pub Lent<'a, T>);
+
+impl<T: Entry> fmt::Display for Untouched<'_, T> {
+    fn fmt<W: fmt::Write>(&self, f: &mut fmt::Formatter<W>) -> fmt::Result {
+        let kept = Left(self.0).kept();
+        write!(f, "{kept}")
+    }
 }

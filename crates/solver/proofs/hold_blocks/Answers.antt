@@ -1,18 +1,13 @@
--- `hold_blocks` meets its contract: two runs of stores, and four more.
-use mathlib.Core.Path.{ap, ◌∙◌}
+-- `hold_blocks` meets its contract: the blocks passed are written, and then four numbers.
+use mathlib.Core.Path.{◌≡◌, ◌∙◌}
 use native.Mathlib.Omega.{arith}
-use lib.ListN.{length}
-use lib.Seq.{length-sets}
-use Rattle.solver.proofs.Stored.{holds}
+use Rattle.solver.proofs.Stored.{holding_more, holds}
 use Rattle.solver.proofs.hold_blocks.Goals as goal
 
-pub copy_at-requires-2 : goal.copy_at-requires-2
-copy_at-requires-2 c = (
-  omega (arith, c.requires.few, c.requires.paired),
-  omega
-      (arith, c.requires.long, ap length c.copy_at.ensures ∙ length-sets c.args.line.now 64 c.args.sizes.now),
-)
+pub loop-b-preserved : goal.loop-b-preserved
+loop-b-preserved g c = holding_more c.loop-b.invariant (omega arith) (omega arith) c.size.ensures c.colour.ensures
 
 pub returns : goal.returns
-returns c =
-    rw (c.copy_at-2.ensures, c.copy_at.ensures) (holds (c.requires))
+returns g c =
+    let e : c.loop-b.b ≡ c.count-count.result = omega arith in
+    rw (← e) (holds c.args.length (e ∙ c.count-count.ensures) c.loop-b.invariant (omega arith) (omega arith) (omega arith))

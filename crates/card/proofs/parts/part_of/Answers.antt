@@ -1,5 +1,4 @@
 -- `parts::part_of` meets its contract.
-use Rattle.rules.proofs.Lists.{part_count}
 use Prim.Native.Nat.{◌+◌, ◌≤◌}
 use lib.ListN.{length, get_or}
 use native.Mathlib.Omega.{arith}
@@ -7,18 +6,10 @@ use Rattle.card.proofs.Counted.{sum_part}
 use Rattle.card.proofs.parts.part_of.Goals as goal
 use Rattle.card.proofs.parts.part_of.Goals.{After-sum_to-from}
 
-pub sum_to-from-requires : goal.sum_to-from-requires
-sum_to-from-requires c =
-    (omega (arith, c.requires.0), c.requires.1.lines)
-
 within : (c : After-sum_to-from) → c.sum_to-from.result + get_or c.args.counts.now
     c.args.i 0 ≤ length c.args.list.now
 within c =
     omega (arith, c.sum_to-from.ensures, sum_part c.args.counts.now c.args.i c.requires.0, c.requires.1.total)
-
-pub overflow_cast-n : goal.overflow_cast-n
-overflow_cast-n c =
-    omega (arith, c.type_inv.counts c.args.i)
 
 pub overflow_add-result : goal.overflow_add-result
 overflow_add-result c =
@@ -30,6 +21,3 @@ offset_bounds-list-from c =
 
 pub slice_bounds-result-end : goal.slice_bounds-result-end
 slice_bounds-result-end c = within (goal.at.slice_bounds-result-end c).After-sum_to-from
-
-pub returns : goal.returns
-returns c = simp (part_count, c.sum_to-from.ensures)

@@ -1,17 +1,18 @@
--- `base::retain` meets its contract: in each list, what is left to write gives the whole.
-use Prim.Native.Nat.{◌≤◌, ◌-◌}
-use lib.ListN.{length, drop}
+-- `base::retain` meets its contract: what is left to write gives the whole.
+use Prim.Native.Nat.{ℕ, ◌≤◌}
+use lib.ListN.{drop}
+use mathlib.Core.List.{map}
+use mathlib.Core.Path.{◌≡◌}
 use Rattle.loops.proofs.Going.{Going}
-use Rattle.rules.specs.Block.{sizes_by, colours_by, blocks}
+use Rattle.rules.specs.Block.{Block}
 use Rattle.rules.specs.Clue.{described}
 use Rattle.description.proofs.base.retain.Given as goal
 
 abbrev pub invariant-loop-i : goal.invariant-loop-i
-invariant-loop-i l =
-    (l.i ≤ length l.sizes) × (l.count ≤ l.i) × Going l.initial.out_sizes 0 (sizes_by (described l.default_colour (blocks l.sizes l.colours))) l.out_sizes l.count
-    (sizes_by (described l.default_colour (blocks (drop l.i l.sizes) (drop l.i l.colours)))) × Going l.initial.out_colours 0
-    (colours_by (described l.default_colour (blocks l.sizes l.colours))) l.out_colours l.count
-    (colours_by (described l.default_colour (blocks (drop l.i l.sizes) (drop l.i l.colours))))
-
-abbrev pub decreases-loop-i : goal.decreases-loop-i
-decreases-loop-i l = length l.sizes - l.i
+invariant-loop-i g l =
+    let bs = (g.B.Blocks.lent l.blocks).list in
+    record {
+      few : l.count ≤ l.i;
+      whole : (f : Block → ℕ) → ((b : Block) (r : ℕ) → goal.V-post g l.value b.size b.colour r → r ≡ f b)
+          → Going l.initial.out 0 (map f (described l.default_colour bs)) l.out l.count (map f (described l.default_colour (drop l.i bs)));
+    }

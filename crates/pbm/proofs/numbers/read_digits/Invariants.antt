@@ -1,12 +1,11 @@
--- `numbers::read_digits` meets its contract: what is left from i on gives the whole.
-use Prim.Native.Nat.{◌≤◌, ◌-◌}
-use Rattle.pbm.proofs.Skipped.{Reading}
+-- `numbers::read_digits` meets its contract: what is left gives the whole.
+use Rattle.pbm.proofs.Reading.{Reading}
 use Rattle.rules.specs.Pbm.{digits}
-use lib.ListN.{length, drop}
+use lib.ListN.{length}
 use Rattle.pbm.proofs.numbers.read_digits.Given as goal
 
-abbrev pub invariant-loop-i : goal.invariant-loop-i
-invariant-loop-i l = (l.i ≤ length l.text) × Reading l.text (digits 0 (drop l.from l.text)) l.value l.i
+abbrev pub invariant-loop-byte : goal.invariant-loop-byte
+invariant-loop-byte l = Reading (digits 0 l.text) l.value l.rest
 
-abbrev pub decreases-loop-i : goal.decreases-loop-i
-decreases-loop-i l = length l.text - l.i
+abbrev pub decreases-loop-byte : goal.decreases-loop-byte
+decreases-loop-byte l = length l.rest

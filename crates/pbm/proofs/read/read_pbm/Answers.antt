@@ -1,34 +1,24 @@
 -- `read::read_pbm` meets its contract: the heading, and then what follows it.
-use Rattle.pbm.proofs.Told.{reads_refused, reads_found}
-use Rattle.pbm.specs.Steps.{SidesFound, SidesRead}
-use Rattle.pbm.specs.declared.heading.Sides.{Sides}
-use Rattle.rules.specs.Pbm.{heading, read_rules}
-use Rattle.rules.specs.Refusal.{verdict}
-use lib.ListN.{length}
-use mathlib.Core.Path.{ap, subst}
-use native.Mathlib.Omega.{arith}
+use Rattle.std.proofs.Common.{rules, Some}
+use Rattle.std.proofs.lemmas.Result.{err_from_is_err_and}
+use Rattle.pbm.proofs.Told.{reads_refused, reads_done, reads_found}
+use Rattle.pbm.specs.Steps.{HeadingRead}
+use Rattle.rules.specs.Pbm.{heading}
+use mathlib.Core.Path.{◌≡◌, sym}
 use Rattle.pbm.proofs.read.read_pbm.Goals as goal
-use Rattle.pbm.proofs.read.read_pbm.Goals.{In-Read}
+use Rattle.pbm.proofs.read.read_pbm.Goals.{In_ok-heading}
 
 -- the heading that was read
-found : (c : In-Read)
-    → SidesFound c.args.text.now (heading c.args.text.now) c.in-Read.width
-    c.in-Read.height c.in-Read.end
-found c =
-    subst (λ (r : Sides). SidesRead c.args.text.now r) c.in-Read.is c.read_heading-sides.ensures
+found : (c : In_ok-heading) → HeadingRead (heading c.args.text.now) (Some c.in_ok-heading.heading)
+found c = let e : c.read_heading.result ≡ Some c.in_ok-heading.heading = search rules in rw e at c.read_heading.ensures
 
-pub slice_bounds-read_drawing-count : goal.slice_bounds-read_drawing-count
-slice_bounds-read_drawing-count c = omega (arith, (found c).end)
+pub returns-in_err-judge_drawing : goal.returns-in_err-judge_drawing
+returns-in_err-judge_drawing c =
+    let p = err_from_is_err_and c.from_residual-in_err-judge_drawing.result c.from_residual-in_err-judge_drawing.ensures.1 in
+    rw (p.1, p.2) (reads_found c.in_ok-heading.heading (found (goal.at.returns-in_err-judge_drawing c).In_ok-heading) (reads_refused (sym c.in_err-judge_drawing.ensures)))
 
-pub slice_bounds-read_drawing-start : goal.slice_bounds-read_drawing-start
-slice_bounds-read_drawing-start c = omega (arith, (found c).end)
-
-pub returns-in-Broken : goal.returns-in-Broken
-returns-in-Broken c =
-    reads_refused
-    (ap (λ o. verdict (read_rules (length c.args.codes.now) o))
-    (subst (λ (r : Sides). SidesRead c.args.text.now r) c.in-Broken.is c.read_heading-sides.ensures))
-
-pub returns-in-Read : goal.returns-in-Read
-returns-in-Read c =
-    reads_found (found (goal.at.returns-in-Read c).In-Read) c.read_drawing.ensures
+pub returns : goal.returns
+returns c =
+    reads_found c.in_ok-heading.heading (found (goal.at.returns c).In_ok-heading)
+    (reads_done c.in_ok-heading.heading.sides.width c.in_ok-heading.heading.sides.height c.in_ok-heading.heading.rest.now c.args.codes.now (sym c.in_ok-judge_drawing.ensures)
+    c.write_pixels.ensures)

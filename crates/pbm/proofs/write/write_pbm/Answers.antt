@@ -1,43 +1,29 @@
 -- `write::write_pbm` meets its contract: the rules, and then the heading and the rows.
-use Rattle.loops.proofs.Going.{put_length}
-use Rattle.pbm.proofs.Told.{Writing, writing_fine, writes_text}
+use Rattle.pbm.proofs.Told.{Writing, writing_fine, writes_page}
+use Rattle.pbm.proofs.Pages.{adds_then}
 use Rattle.rules.proofs.PbmRounds.{text_length}
-use Rattle.rules.proofs.Replies.{writes_refused}
+use Rattle.std.proofs.Common.{rules}
 use lib.ListN.{length}
-use mathlib.Core.Path.{sym, ◌∙◌}
+use mathlib.Core.Path.{sym, ap}
 use native.Mathlib.Omega.{arith}
 use Rattle.pbm.proofs.write.write_pbm.Goals as goal
-use Rattle.pbm.proofs.write.write_pbm.Goals.{In-Fine}
+use Rattle.pbm.proofs.write.write_pbm.Goals.{In_ok-judge_picture}
 
 -- no rule is broken
-fine : (c : In-Fine)
-    → Writing c.args.width c.args.height c.args.codes.now
-    (length c.args.text.now)
-fine c =
-    writing_fine c.args.width c.args.height c.args.codes.now (length c.args.text.now)
-    (sym c.judge_picture-v.ensures ∙ c.in-Fine.is)
+fine : (c : In_ok-judge_picture) → Writing c.args.width c.args.height c.args.codes.now (length c.args.text.now)
+fine c = writing_fine c.args.width c.args.height c.args.codes.now (length c.args.text.now) (sym c.in_ok-judge_picture.ensures)
 
-pub write_heading-at-requires : goal.write_heading-at-requires
-write_heading-at-requires c =
-    let f = fine (goal.at.write_heading-at-requires c).In-Fine in
-    let long = text_length c.args.width c.args.height c.args.codes.now f.size in
-    (omega (arith, f.sides.1), omega (arith, f.sides.3), omega (arith, f.fits, long))
-
-pub write_rows-entries-requires : goal.write_rows-entries-requires
-write_rows-entries-requires c =
-    let f = fine (goal.at.write_rows-entries-requires c).In-Fine in
+pub write_rows-requires : goal.write_rows-requires
+write_rows-requires c =
+    let f = fine (goal.at.write_rows-requires c).In_ok-judge_picture in
     record {
-      wide = f.sides.1;
-      high = f.sides.3;
+      wide = f.sides.0;
       size = f.size;
       inked = f.inked;
-      room = omega (arith, f.fits, text_length c.args.width c.args.height c.args.codes.now f.size, c.write_heading-at.ensures.end, put_length c.write_heading-at.ensures);
+      room = omega (arith, f.fits, text_length c.args.width c.args.height c.args.codes.now f.size, c.new-page.ensures.end, ap length c.new-page.ensures.text, c.write_heading.ensures.end, c.write_heading.ensures.long);
     }
 
-pub returns-in-Bad : goal.returns-in-Bad
-returns-in-Bad c = writes_refused (sym c.judge_picture-v.ensures ∙ c.in-Bad.is)
-
-pub returns-in-Fine : goal.returns-in-Fine
-returns-in-Fine c =
-    writes_text c.args.width c.args.height c.args.codes.now (sym c.judge_picture-v.ensures ∙ c.in-Fine.is)
-    c.write_heading-at.ensures c.write_rows-entries.ensures
+pub returns : goal.returns
+returns c =
+    writes_page c.args.width c.args.height c.args.codes.now (sym c.in_ok-judge_picture.ensures) c.new-page.ensures.text c.new-page.ensures.end
+    (adds_then c.write_heading.ensures c.write_rows.ensures) c.count.ensures (search rules)

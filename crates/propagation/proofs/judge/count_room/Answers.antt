@@ -1,29 +1,13 @@
--- `judge::count_room` meets its contract: the sum is the room number of the cells before i.
-use mathlib.Core.Path.{ap}
-use native.Mathlib.Omega.{arith}
-use lib.ListN.{drop_of_length-le}
-use Rattle.rules.specs.Run.{room}
-use Rattle.propagation.proofs.Cells.{room_cell}
+-- `judge::count_room` meets its contract: the set of each cell adds its colours less one.
+use Rattle.std.proofs.Common.{rules, ◌≡◌, ◌-◌, ◌∙◌}
+use Rattle.std.specs.Prelude.{sum_by}
+use Rattle.std.specs.Int.Count.{ones}
+use Rattle.std.proofs.iter.runs.Made.{chains}
+use Rattle.propagation.specs.Steps.{set_in}
+use Rattle.propagation.proofs.Cells.{room_sum}
 use Rattle.propagation.proofs.judge.count_room.Goals as goal
 
-pub loop-i-init : goal.loop-i-init
-loop-i-init c = omega arith
-
-pub bounds-cells-i : goal.bounds-cells-i
-bounds-cells-i c = omega arith
-
-pub overflow_add-sum : goal.overflow_add-sum
-overflow_add-sum c = omega arith
-
-pub overflow_add-i : goal.overflow_add-i
-overflow_add-i c = omega arith
-
-pub loop-i-smaller : goal.loop-i-smaller
-loop-i-smaller c = omega arith
-
-pub loop-i-preserved : goal.loop-i-preserved
-loop-i-preserved c =
-    omega (arith, room_cell c.args.cells.now c.loop-i.i (omega arith), c.less_one-sum.ensures)
-
 pub returns : goal.returns
-returns c = omega (arith, ap room (drop_of_length-le c.args.cells.now {i = c.loop-i.i} (omega arith)))
+returns g c =
+    let e : c.sum.result ≡ sum_by (λ n. ones (set_in g.C.LentCard.kind n) - 1) c.args.grid.now = search (rules, chains) in
+    e ∙ room_sum g.C.LentCard.kind c.args.grid.now

@@ -1,23 +1,14 @@
--- `judge::any_illegal` meets its contract: no block before i is illegal.
-use mathlib.Core.Path.{refl, sym, ap, ◌∙◌}
-use Rattle.rules.proofs.Blocks.{blocks_step, blocks_end}
-use Rattle.rules.specs.Block.{illegal}
-use native.Mathlib.Omega.{arith}
+-- `judge::any_illegal` meets its contract: the sizes and colours beside one another are the blocks.
+use mathlib.Core.Path.{◌∙◌}
+use Rattle.std.proofs.Common.{rules}
+use Rattle.std.proofs.lemmas.Iterator.{YieldsList-from_slice, YieldsList-from_zip}
+use Rattle.std.proofs.lemmas.Iterator.Search.{any_from_yields_List}
+use Rattle.rules.specs.Block.{illegal_block}
+use Rattle.rules.proofs.Blocks.{paired_any}
 use Rattle.rules.proofs.judge.any_illegal.Goals as goal
 
-pub loop-i-init : goal.loop-i-init
-loop-i-init c = (omega arith, refl)
-
-pub returns-then-illegal_block : goal.returns-then-illegal_block
-returns-then-illegal_block c =
-    sym
-    (c.loop-i.invariant.1 ∙ ap illegal (blocks_step _ _ _ c.loop-i-test.true (c.requires)) ∙ simp (sym c.illegal_block.ensures ∙ c.if-illegal_block.true))
-
-pub loop-i-preserved : goal.loop-i-preserved
-loop-i-preserved c = (
-  omega arith,
-  c.loop-i.invariant.1 ∙ ap illegal (blocks_step _ _ _ c.loop-i-test.true (c.requires)) ∙ simp (sym c.illegal_block.ensures ∙ c.if-illegal_block.false),
-)
-
 pub returns : goal.returns
-returns c = sym (c.loop-i.invariant.1 ∙ ap illegal (blocks_end _ _ _ c.loop-i-test.false))
+returns c =
+    any_from_yields_List (λ p. illegal_block p.0 p.1) c.any.new.self _ _ c.any.ensures.ran
+    (YieldsList-from_zip (YieldsList-from_slice c.args.sizes.now cc) (YieldsList-from_slice c.args.colours.now cc)) (λ x b q k. search rules)
+    ∙ paired_any c.args.sizes.now c.args.colours.now

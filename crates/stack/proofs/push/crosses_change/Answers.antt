@@ -1,12 +1,8 @@
 -- `push::crosses_change` meets its contract.
 use mathlib.Core.Path.{sym, ◌∙◌}
 use native.Mathlib.Omega.{arith}
-use Rattle.stack.proofs.Coded.{cross_small}
 use Rattle.stack.proofs.Pushed.{crosses_not, crosses_at}
 use Rattle.stack.proofs.push.crosses_change.Goals as goal
-
-pub code_of-first-requires : goal.code_of-first-requires
-code_of-first-requires c = rw c.crossing.ensures (cross_small c.args.line 0 (omega arith))
 
 pub returns-then-code-first : goal.returns-then-code-first
 returns-then-code-first c =

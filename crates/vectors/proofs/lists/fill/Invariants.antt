@@ -1,9 +1,6 @@
-use Rattle.std.proofs.Common.{◌-◌, ◌≤◌, length}
-use Rattle.vectors.specs.Fillers.{filler_at, Filled}
+use Rattle.std.proofs.Common.{map}
+use Rattle.vectors.specs.Fillers.{Filled}
 use Rattle.vectors.proofs.lists.fill.Given as goal
 
-abbrev pub invariant-loop-i : goal.invariant-loop-i
-invariant-loop-i l = (l.i ≤ length l.list) × Filled filler_at l.list l.i
-
-abbrev pub decreases-loop-i : goal.decreases-loop-i
-decreases-loop-i l = length l.list - l.i
+abbrev pub invariant-loop-index : goal.invariant-loop-index
+invariant-loop-index g l = Filled (g.T.Entry.entry_at l.fn.turn) (map g.T.Entry.value l.list) l.index
