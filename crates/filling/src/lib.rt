@@ -23,7 +23,11 @@ pub struct HeldLine {
 impl HeldLine {
     // A line of no cells and no blocks: all is 0.
     pub fn new() -> Self
-        ensures { result.cells ≡ replicate 64 0 }
+        ensures cells { result.cells ≡ replicate 64 0 }
+        ensures sizes { result.sizes ≡ replicate 64 0 }
+        ensures colours { result.colours ≡ replicate 65 0 }
+        ensures sums { result.sums ≡ replicate 65 0 }
+        ensures empty { (result.length ≡ 0) × (result.count ≡ 0) }
     {
         HeldLine {
             cells: [0; 64],

@@ -16,6 +16,7 @@ use rules::LinePosition;
 use stack::Stack;
 use update::update_line;
 
+// How many cells a line has.
 fn len_of(width: usize, height: usize, line: LinePosition) -> usize
     ensures { result ≡ len width height line }
 {

@@ -15,6 +15,7 @@ pub(crate) fn crossing(line: LinePosition, j: usize) -> LinePosition
     }
 }
 
+// The code of a line.
 pub(crate) fn code_of(line: LinePosition) -> u32
     requires { On 64 64 line }
     ensures { line_of_code result ≡ line }
@@ -25,6 +26,7 @@ pub(crate) fn code_of(line: LinePosition) -> u32
     }
 }
 
+// The line of a code.
 pub fn line_of(code: u32) -> LinePosition
     ensures { result ≡ line_of_code code }
 {

@@ -1,5 +1,5 @@
 // Pushing: a pushed line moves to the top and stands once. All that a line pushes are dropped in one pass, then put on top.
-ghost use Rattle.std.specs.Prelude.{◌≡◌, [], ◌∷◌, map, ◌++◌, ◌+◌, ◌≤◌, ◌<◌, length, MatchOption};
+ghost use Rattle.std.specs.Prelude.{◌≡◌, [], ◌∷◌, map, ◌++◌, ◌+◌, ◌≤◌, ◌<◌, length, IfNone, MatchOption};
 ghost use Rattle.rules.specs.Board.{cross};
 ghost use Rattle.rules.specs.Run.{push_all, changed};
 ghost use Rattle.stack.specs.Stack.{line_of_code, lines_on, Kept, Pushable};
@@ -40,6 +40,7 @@ impl Stack<'_> {
     pub fn pop(&mut self) -> Option<LinePosition>
         requires { self.old.count ≤ length self.old.codes.now }
         ensures kept { Kept self.old self.new }
+        ensures empty { IfNone result (lines_on self.new ≡ []) }
         ensures taken { MatchOption result (lines_on self.old ≡ []) (λ line. lines_on self.old ≡ line ∷ lines_on self.new) }
     {
         if self.count == 0 {
