@@ -1,6 +1,6 @@
 // The pass of Description::new over a line's blocks.
-ghost use Rattle.std.specs.Prelude.{◌≡◌, ◌≤◌, ℕ, map, length};
-ghost use Rattle.rules.specs.Block.{Block};
+ghost use Rattle.std.specs.Prelude.{◌≡◌, ◌≤◌, length, true};
+ghost use Rattle.rules.specs.Block.{sizes_by, colours_by};
 ghost use Rattle.rules.specs.Clue.{is_default, described};
 ghost use Rattle.loops.specs.Put.{Put};
 
@@ -13,16 +13,18 @@ fn is_default(size: u32, colour: u32, default_colour: u32) -> bool
     size == 0 && colour == default_colour
 }
 
-// What `value` makes of the size and the colour of each block that is not the default, in order.
-pub(crate) fn retain<B: Blocks, V: Fn(u32, u32) -> u32>(
+// The blocks that are not the default, in order: their sizes and, where they are coloured, their colours. One pass for both lists, so that each block
+// is read and tested once.
+pub(crate) fn retain<B: Blocks, const COLOURED: bool>(
     blocks: &B,
     default_colour: u32,
-    value: V,
-    out: &mut [u32],
+    out_sizes: &mut [u32],
+    out_colours: &mut [u32],
 ) -> usize
-    requires room { length (B.lent blocks.now).list ≤ length out.old }
-    requires callable { V.IsAlwaysCallable value }
-    ensures { (f : Block → ℕ) → ((b : Block) (r : ℕ) → V.post value b.size b.colour r → r ≡ f b) → Put out.old 0 (map f (described default_colour (B.lent blocks.now).list)) result out.new }
+    requires sizes { length (B.lent blocks.now).list ≤ length out_sizes.old }
+    requires colours { COLOURED ≡ true → length (B.lent blocks.now).list ≤ length out_colours.old }
+    ensures sizes { Put out_sizes.old 0 (sizes_by (described default_colour (B.lent blocks.now).list)) result out_sizes.new }
+    ensures colours { COLOURED ≡ true → Put out_colours.old 0 (colours_by (described default_colour (B.lent blocks.now).list)) result out_colours.new }
 {
     let mut count = 0;
     for i in 0..blocks.count() {
@@ -31,7 +33,10 @@ pub(crate) fn retain<B: Blocks, V: Fn(u32, u32) -> u32>(
         if is_default(size, colour, default_colour) {
             continue;
         }
-        out[count] = value(size, colour);
+        out_sizes[count] = size;
+        if COLOURED {
+            out_colours[count] = colour;
+        }
         count += 1;
     }
     count

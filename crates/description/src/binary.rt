@@ -14,5 +14,5 @@ pub fn description_new(blocks: &Binary<'_>, out_sizes: &mut [u32]) -> Result<usi
 {
     let count = blocks.count();
     judge_count(true, count, count <= out_sizes.len())?;
-    Ok(retain(blocks, BLACK, |size, _| size, out_sizes))
+    Ok(retain::<_, false>(blocks, BLACK, out_sizes, &mut []))
 }

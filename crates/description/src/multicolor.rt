@@ -20,6 +20,5 @@ pub fn description_new(
     let count = blocks.count();
     let roomy = both_room(count, out_sizes.len(), out_colours.len());
     judge_count(paired, count, roomy)?;
-    retain(blocks, 0, |size, _| size, out_sizes);
-    Ok(retain(blocks, 0, |_, colour| colour, out_colours))
+    Ok(retain::<_, true>(blocks, 0, out_sizes, out_colours))
 }

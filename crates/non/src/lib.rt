@@ -20,9 +20,10 @@ use faults::NoCard;
 use reading::Reading;
 use std::io::Read;
 
-// Reads a card from a file, or whatever else gives bytes. The loop counts the pieces, since nothing says that a file ends.
-pub fn read_card<R: Read>(input: &mut R) -> Result<Card, NoCard> {
-    let mut reading = Reading::new();
+// Reads a file, or whatever else gives bytes, into a card of which nothing was read yet: one is lent, since it is large to hand on. The loop counts the
+// pieces, since nothing says that a file ends.
+pub fn read_card<R: Read>(input: &mut R, card: &mut Card) -> Result<(), NoCard> {
+    let mut reading = Reading::new(card);
     let mut buffer = [0; 4096];
     for _ in 0..u64::MAX {
         match input.read(&mut buffer) {

@@ -33,6 +33,14 @@ impl Draft {
         }
     }
 
+    // Begins the next line. Its room stays, which `new` would fill again for each line.
+    pub(crate) fn clear(&mut self) {
+        self.text.clear();
+        self.cut = false;
+        self.blank = false;
+        self.comment = false;
+    }
+
     // Whether nothing was read.
     pub(crate) fn is_new(&self) -> bool {
         self.text.is_empty() && !self.blank && !self.comment

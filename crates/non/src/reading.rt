@@ -7,8 +7,8 @@ use crate::line::{Draft, Line};
 
 // How far reading is.
 #[derive(Drop)]
-pub(crate) struct Reading {
-    card: Card,
+pub(crate) struct Reading<'a> {
+    card: &'a mut Card,
     before: Before,
     draft: Draft,
     // How many lines were read, up to 2^32 - 1.
@@ -34,11 +34,11 @@ fn take_line(line: Line<'_>, before: Before, card: &mut Card) -> Result<Before, 
     Ok(Before::Line(way))
 }
 
-impl Reading {
-    // The start of a file.
-    pub(crate) fn new() -> Reading {
+impl<'a> Reading<'a> {
+    // The start of a file, which is read into a card of which nothing was read yet.
+    pub(crate) fn new(card: &'a mut Card) -> Reading<'a> {
         Reading {
-            card: Card::new(),
+            card,
             before: Before::Other,
             draft: Draft::new(),
             number: 0,
@@ -63,7 +63,7 @@ impl Reading {
         let marked = self.ends_mark(byte);
         match byte {
             b'\n' => return self.end_line(),
-            _ if marked => self.draft = Draft::new(),
+            _ if marked => self.draft.clear(),
             _ => self.draft.keep(byte),
         }
         Ok(())
@@ -82,7 +82,7 @@ impl Reading {
         self.number = self.number.saturating_add(1);
         if !self.draft.is_comment() {
             let line = self.draft.line(self.number);
-            self.before = take_line(line, self.before, &mut self.card).map_err(|fault| {
+            self.before = take_line(line, self.before, self.card).map_err(|fault| {
                 let line = match fault {
                     Fault::NoList { line } => line,
                     _ => self.number,
@@ -90,7 +90,7 @@ impl Reading {
                 NoCard::Line { line, fault }
             })?;
         }
-        self.draft = Draft::new();
+        self.draft.clear();
         Ok(())
     }
 
@@ -102,16 +102,15 @@ impl Reading {
         self.end_line()
     }
 
-    // The card, at the end of the file.
-    pub(crate) fn end(mut self) -> Result<Card, NoCard> {
+    // Takes the end of the file.
+    pub(crate) fn end(&mut self) -> Result<(), NoCard> {
         self.end_last()?;
         let line = self.number;
-        judge_end(&self.card).map_err(|fault| NoCard::End { line, fault })?;
-        Ok(self.card)
+        judge_end(self.card).map_err(|fault| NoCard::End { line, fault })
     }
 
     // What a file that cannot be read on is: it is no card, but a fault in what was read is told first.
-    pub(crate) fn fail(mut self) -> Result<Card, NoCard> {
+    pub(crate) fn fail(&mut self) -> Result<(), NoCard> {
         self.end_last()?;
         Err(NoCard::Unreadable)
     }

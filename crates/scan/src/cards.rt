@@ -1,10 +1,9 @@
 // Writes a card: its title, its sides, and the clues of its rows and columns.
-ghost use Rattle.std.specs.Prelude.{◌≡◌, ◌≤◌, length, map, IfOk};
+ghost use Rattle.std.specs.Prelude.{◌≡◌, ◌≤◌, length, map};
 ghost use Rattle.rules.specs.Card.{sum};
 ghost use Rattle.scan.specs.Titles.{is_odd, title_byte};
 
 use crate::texts::count_through;
-use std::alloc::{AllocError, Allocator};
 use std::fmt::Write;
 use std::{fmt, io};
 
@@ -30,11 +29,33 @@ fn title_byte(byte: u8) -> u8
     if is_odd(byte) { b'_' } else { byte }
 }
 
-// What a title shows of a name.
-fn title<A: Allocator>(alloc: A, name: &[u8]) -> Result<Vec<u8, A>, AllocError>
-    ensures { IfOk result (λ v. v.items ≡ map title_byte name.now) }
+// Turns bytes of a name into what a title shows of them, where they lie.
+fn to_title(name: &mut [u8])
+    ensures { name.new ≡ map title_byte name.old }
 {
-    name.iter().map(|&byte| title_byte(byte)).collect(alloc)
+    for byte in name.iter_mut() {
+        *byte = title_byte(*byte);
+    }
+}
+
+// What a title shows of a part of a name, in the front of the room for it.
+fn title<'a>(name: &[u8], room: &'a mut [u8; 64]) -> &'a [u8]
+    requires { length name.now ≤ 64 }
+    ensures { result.now ≡ map title_byte name.now }
+{
+    let shown = &mut room[..name.len()];
+    shown.copy_from_slice(name);
+    to_title(shown);
+    shown
+}
+
+// The title is the file's name, without folders: part after part, so that no memory is asked for.
+fn write_title(rt: &impl Print, path: &[u8]) -> io::Result<()> {
+    print!(rt; "title \"")?;
+    for part in path[count_through(path, b'/')..].chunks(64) {
+        rt.write_all(title(part, &mut [0; 64]))?;
+    }
+    println!(rt; "\"")
 }
 
 // Writes the clue of a line; 0 where it has no block.
@@ -63,19 +84,16 @@ impl fmt::Display for Clues<'_> {
     }
 }
 
-// Writes a card. Its title is the file's name, without folders. The sides stay two numbers, each of which is written once.
+// Writes a card. The sides stay two numbers, each of which is written once.
 pub(crate) fn write_card(
-    rt: &(impl Alloc + Print),
+    rt: &impl Print,
     path: &[u8],
     width: usize,
     height: usize,
     rows: Clues<'_>,
     columns: Clues<'_>,
 ) -> io::Result<()> {
-    let title = title(rt.alloc(), &path[count_through(path, b'/')..])?;
-    print!(rt; "title \"")?;
-    rt.write_all(title.as_slice())?;
-    println!(rt; "\"")?;
+    write_title(rt, path)?;
     println!(rt; "width {width}\nheight {height}\n")?;
     print!(rt; "rows\n{rows}\ncolumns\n{columns}")
 }

@@ -13,7 +13,7 @@ const BLANK: u32 = 1;
 
 // Makes the clues of a picture, and writes its card.
 fn write_picture(
-    rt: &(impl Alloc + Print),
+    rt: &impl Print,
     name: &[u8],
     width: usize,
     height: usize,
@@ -60,12 +60,7 @@ fn judge_long(text: &[u8], codes: &mut [u32]) -> NoPicture {
 }
 
 // Makes a card of a text, if the whole of it was read; if not, what was read tells what is wrong, so the flag stands beside it.
-pub(crate) fn scan_text(
-    rt: &(impl Alloc + Print),
-    name: &[u8],
-    text: &[u8],
-    whole: bool,
-) -> io::Result<()> {
+pub(crate) fn scan_text(rt: &impl Print, name: &[u8], text: &[u8], whole: bool) -> io::Result<()> {
     let mut codes = [0u32; 4096];
     if !whole {
         return write_fault(rt, name, judge_long(text, &mut codes));

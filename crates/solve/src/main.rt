@@ -10,6 +10,7 @@ mod board;
 mod solving;
 
 use files::{count_arguments, open_file};
+use non::card::Card;
 use non::faults::NoCard;
 use non::read_card;
 use solving::solve_card;
@@ -30,11 +31,12 @@ fn write_bad(rt: &impl Print, name: &[u8], what: impl Display + Drop) -> io::Res
 
 // A card that the reader takes and the run refuses would be told with the run's number.
 fn solve_file<I: Read>(rt: &impl Print, name: &[u8], input: &mut I) -> io::Result<()> {
-    let card = match read_card(input) {
-        Ok(card) => card,
+    let mut card = Card::new();
+    match read_card(input, &mut card) {
+        Ok(()) => {}
         Err(fault @ NoCard::Unreadable) => return write_bad(rt, name, format_args!(": {fault}")),
         Err(fault) => return write_bad(rt, name, format_args!(", {fault}")),
-    };
+    }
     if let Some(refusal) = solve_card(rt, &card)? {
         let number = u32::from(refusal);
         return write_bad(rt, name, format_args!(": the run refuses it with {number}"));

@@ -5,7 +5,6 @@ ghost use Rattle.std.specs.Prelude.{◌≡◌, ◌≤◌, true, false, IfOk};
 
 use std::io;
 use std::io::Read;
-use std::ops::Range;
 
 // Where a file has no next number though it has not ended.
 #[derive(Debug, Drop)]
@@ -23,14 +22,16 @@ impl From<io::Error> for ReadError {
     }
 }
 
-// A file that is read: the piece of it that was read last, which of its bytes are still to be used, and whether a fault was found, which stays
-// as a flag, since the numbers after it are still told as 0.
-// The piece is an array, since a `BufReader` needs a heap, and the programs that read files have none.
-#[derive(Drop)]
+// A file that is read: the piece of it that was read last, whose bytes from `at` to `filled` are still to be used, and whether a fault was found,
+// which stays as a flag, since the numbers after it are still told as 0.
+// The piece is an array, since a `BufReader` needs a heap, and the programs that read files have none. Its bounds are two numbers, since no
+// `Range` is `Copy`, and a reader of an input that is `Copy` is, too.
+#[derive(Clone, Copy, Drop)]
 pub struct Reader<R> {
     input: R,
     piece: [u8; 65536],
-    unread: Range<usize>,
+    at: usize,
+    filled: usize,
     faulty: bool,
 }
 
@@ -45,7 +46,8 @@ impl<R: Read> Reader<R> {
         Reader {
             input,
             piece: [0; 65536],
-            unread: 0..0,
+            at: 0,
+            filled: 0,
             faulty: false,
         }
     }
@@ -66,18 +68,19 @@ impl<R: Read> Reader<R> {
 
     // The next byte, which stays the next one; none at the end of the input.
     fn peek(&mut self) -> io::Result<Option<u8>> {
-        if self.unread.is_empty() {
-            self.unread = 0..self.input.read(&mut self.piece)?;
+        if self.at >= self.filled {
+            self.filled = self.input.read(&mut self.piece)?;
+            self.at = 0;
         }
-        if self.unread.is_empty() {
+        if self.filled == 0 {
             return Ok(None);
         }
-        Ok(self.piece.get(self.unread.start).copied())
+        Ok(self.piece.get(self.at).copied())
     }
 
     // Goes past the next byte.
     fn pass(&mut self) {
-        self.unread.next();
+        self.at = self.at.saturating_add(1);
     }
 
     // Goes past blanks and comments to the byte that is next. The count of turns only shows that the loop ends, since nothing says that an

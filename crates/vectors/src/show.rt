@@ -89,36 +89,33 @@ impl fmt::Display for Kept {
 pub struct Left<'a, T>(pub Lent<'a, T>);
 
 impl<'a, T: Entry> Left<'a, T> {
-    // The entries that hold all that was written.
-    fn written(&self) -> &'a [T] {
-        &self.0.list[..self.0.written()]
-    }
-
-    fn kept(&self) -> Kept {
-        Kept(self.0.list.len() - self.0.written())
+    // The entries that hold all that was written, and how many entries after them are as they were: the end is looked for once.
+    fn split(&self) -> (&'a [T], Kept) {
+        let (written, kept) = self.0.list.split_at(self.0.written());
+        (written, Kept(kept.len()))
     }
 }
 
 impl fmt::Display for Left<'_, u32> {
     fn fmt<W: fmt::Write>(&self, f: &mut fmt::Formatter<W>) -> fmt::Result {
-        let runs = Runs(self.written());
-        let kept = self.kept();
+        let (written, kept) = self.split();
+        let runs = Runs(written);
         write!(f, "{runs}{kept}")
     }
 }
 
 impl fmt::Display for Left<'_, u64> {
     fn fmt<W: fmt::Write>(&self, f: &mut fmt::Formatter<W>) -> fmt::Result {
-        let entries = Each(self.written());
-        let kept = self.kept();
+        let (written, kept) = self.split();
+        let entries = Each(written);
         write!(f, "{entries}{kept}")
     }
 }
 
 impl fmt::Display for Left<'_, u8> {
     fn fmt<W: fmt::Write>(&self, f: &mut fmt::Formatter<W>) -> fmt::Result {
-        let text = Quoted(self.written());
-        let kept = self.kept();
+        let (written, kept) = self.split();
+        let text = Quoted(written);
         write!(f, "{text}{kept}")
     }
 }
@@ -129,13 +126,12 @@ pub struct LeftLong<'a>(pub Lent<'a, u32>);
 
 impl fmt::Display for LeftLong<'_> {
     fn fmt<W: fmt::Write>(&self, f: &mut fmt::Formatter<W>) -> fmt::Result {
-        let left = Left(self.0);
-        let written = left.written();
+        let (written, kept) = Left(self.0).split();
         if written.len() <= MOST_SHOWN {
-            return write!(f, "{left}");
+            let runs = Runs(written);
+            return write!(f, "{runs}{kept}");
         }
         let sums = Sums(written);
-        let kept = left.kept();
         write!(f, "{sums}{kept}")
     }
 }
@@ -146,7 +142,7 @@ pub struct Untouched<'a, T>(pub Lent<'a, T>);
 
 impl<T: Entry> fmt::Display for Untouched<'_, T> {
     fn fmt<W: fmt::Write>(&self, f: &mut fmt::Formatter<W>) -> fmt::Result {
-        let kept = Left(self.0).kept();
+        let (_, kept) = Left(self.0).split();
         write!(f, "{kept}")
     }
 }
