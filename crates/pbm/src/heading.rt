@@ -19,15 +19,13 @@ fn skip_filler(text: &[u8]) -> &[u8]
     ensures { result.now ≡ past_filler false text.now }
 {
     let mut open = false;
-    let mut rest = text;
-    while let Some((&byte, tail)) = rest.split_first() {
+    for (i, &byte) in text.iter().enumerate() {
         if is_plain(open, byte) {
-            return rest;
+            return &text[i..];
         }
         open = is_commented(open, byte);
-        rest = tail;
     }
-    rest
+    &[]
 }
 
 // The number at the front of the text.
