@@ -17,8 +17,8 @@ use std::io::Read;
 use std::rt::{Env, Files};
 use texts::read_text;
 
-// How many bytes of a file are read. A text is shorter. It is read into an array, and so are its codes and clues: the program has no heap, which it could
-// find short.
+// How many bytes of a file are read. A text is shorter. It is read into an array, and so are its codes and clues: the program needs no heap, so none
+// can run short.
 const MOST_BYTES: usize = 65536;
 
 fn scan_file<I: Read>(rt: &impl Print, name: &[u8], input: &mut I) -> io::Result<()> {
